@@ -1,1 +1,4 @@
 pub mod Limits
+pub mod Rules
+pub mod Decoded
+pub mod Columns

@@ -75,3 +75,11 @@ fn limits_agree()
     ensures { λ _. do ⌜ (← ⟦Chain::FEWEST⟧ .entry) ≡ leastMembers ⌝ }
     ensures { λ _. do ⌜ (← ⟦Chain::MEMBERS⟧ .entry) ≡ mostMembers ⌝ }
 {}
+
+// The parts of a sheet whose records are of equal width.
+pub enum Part {
+    Modules,
+    Delays,
+    Partitions,
+    Exclusions,
+}
