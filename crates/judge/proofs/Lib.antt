@@ -1,0 +1,5 @@
+pub mod Places
+pub mod Exact
+pub mod Stages
+pub mod Right
+pub mod Theorems

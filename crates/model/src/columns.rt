@@ -1,0 +1,6 @@
+// stub until branch reader lands
+pub enum Column {
+    Period,
+    Budget,
+    Memory,
+}
