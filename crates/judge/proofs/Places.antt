@@ -147,3 +147,17 @@ module _ (f : ℕ → Bool) where
 
     pub passes-end : (i : ℕ) → i ≡ n → failsFrom f (n - i) i ≡ firstFail f n → passes f n ≡ true
     passes-end i h inv = passes-none .1 (sym (fails-end n i (omega arith) inv) ∙ h)
+
+-- two tests that agree fail first at one place
+fails-alike : (f g : ℕ → Bool) (k i : ℕ) → ((j : ℕ) → j < i + k → f j ≡ g j) → failsFrom f k i ≡ failsFrom g k i
+unfolding failsFrom
+fails-alike f g zero i h = refl
+fails-alike f g (suc k) i h =
+    let r = fails-alike f g k (suc i) (λ j l. h j (omega arith)) in
+    let s = h i (omega arith) in
+    by-answer (f i)
+    (λ e. from-pass f k i e ∙ r ∙ sym (from-pass g k i (sym s ∙ e)))
+    (λ e. from-hit f k i e ∙ sym (from-hit g k i (sym s ∙ e)))
+
+pub first-alike : (f g : ℕ → Bool) (n : ℕ) → ((j : ℕ) → j < n → f j ≡ g j) → firstFail f n ≡ firstFail g n
+first-alike f g n h = fails-alike f g n 0 (λ j l. h j (omega arith))

@@ -4,6 +4,7 @@ pub mod answers;
 pub mod widths;
 pub mod placements;
 pub mod pairs;
+pub mod rooms;
 pub mod exclusions;
 pub mod chains;
 
