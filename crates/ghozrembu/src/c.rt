@@ -1,0 +1,27 @@
+// The calls as C sees them: include/ghozrembu.h. (The lent step is exported by `table`.)
+ghost use mathlib.Core.Path.{_≡_};
+ghost use Rattle.reader.specs.Number.{sheetNumber};
+ghost use Rattle.table.specs.Sound.{tableNumber};
+ghost use Rattle.ghozrembu.specs.Judged.{judgedBytes};
+use judge::Answer;
+
+#[no_mangle]
+pub extern "C" fn ghozrembu_sheet_number(sheet: &[u8]) -> u8
+    ensures { λ r. ⌜ r ≡ sheetNumber (now (sheet .entry)) ⌝ }
+{
+    crate::judging::sheet_number(sheet)
+}
+
+#[no_mangle]
+pub extern "C" fn ghozrembu_judge(sheet: &[u8], plan: &[u8]) -> Answer
+    ensures { λ r. ⌜ r ≡ judgedBytes (now (sheet .entry)) (now (plan .entry)) ⌝ }
+{
+    crate::judging::judge(sheet, plan)
+}
+
+#[no_mangle]
+pub extern "C" fn ghozrembu_table_number(table: &[u8]) -> u8
+    ensures { λ r. ⌜ r ≡ tableNumber (now (table .entry)) ⌝ }
+{
+    table::sound::table_number(table)
+}
