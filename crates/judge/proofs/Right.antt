@@ -102,7 +102,7 @@ module _ (s : Sheet) (delays : List (List ℕ)) (T B ms ts : List ℕ) where
       numbers (more h) = absurd (not-before b a y x h)
 
   -- where all hold nothing is broken
-  not-broken : (a : Answer) → Accepted s delays T B ms ts → FirstBroken s delays T B ms ts a → ⊥
+  pub not-broken : (a : Answer) → Accepted s delays T B ms ts → FirstBroken s delays T B ms ts a → ⊥
   not-broken a all x = x .fails (accepted-all all (a .number) (a .first) (a .second) (x .place))
 
   pub right-unique : (a b : Answer) → Right s delays T B ms ts a → Right s delays T B ms ts b → a ≡ b

@@ -7,8 +7,10 @@ ghost use Rattle.model.specs.None.{noExclusion};
 ghost use Rattle.judge.specs.Places.{firstFail};
 ghost use Rattle.judge.specs.Constraints.{c6, c7};
 ghost use Rattle.judge.specs.Asked.{BothPlaced};
+ghost use Rattle.judge.specs.Verdict.{brokenAt, orNext};
 use crate::widths::index;
 use crate::widths::member;
+use crate::Answer;
 use model::records::Exclusion;
 use model::records::Module;
 use model::records::Sheet;
@@ -75,4 +77,17 @@ pub fn shared_cabinet(exclusions: [Exclusion; Sheet::EXCLUSIONS], count: usize, 
         x += 1;
     }
     x
+}
+
+// C6, then C7: the lowest exclusion entry that is broken.
+pub fn broken_exclusion(exclusions: [Exclusion; Sheet::EXCLUSIONS], count: usize, rooms: [Module; Sheet::MODULES], modules: &[u32; Sheet::PARTITIONS]) -> Answer
+    requires { ⌜ count ≤ mostExclusions ⌝ }
+    requires { ⌜ ((x : ℕ) → x < count → BothPlaced (now modules) (getD exclusions x noExclusion)) ⌝ }
+    ensures { λ r. ⌜ r ≡ orNext (brokenAt 6 (firstFail (λ x. c6 (now (modules .entry)) (getD exclusions x noExclusion)) count) count) (brokenAt 7 (firstFail (λ x. c7 rooms (now (modules .entry)) (getD exclusions x noExclusion)) count) count) ⌝ }
+{
+    let six = Answer::broken_at(6, shared_module(exclusions, count, modules), count);
+    if six.number != 0 {
+        return six;
+    }
+    Answer::broken_at(7, shared_cabinet(exclusions, count, rooms, modules), count)
 }
