@@ -1,12 +1,12 @@
--- `table::step::position_number` meets its contract: each test says which case holds.
+-- `table::dispatcher::position_number` meets its contract: each test says which case holds.
 -- Assumes nothing.
 use borrow.Author.Tests.{lt-ltb, le-ltb, le-leb, lt-leb, eq-eqb, ne-eqb}
 use Rattle.table.specs.Step.{positionNumber}
 use borrow.Author.Needs.{needs}
-use Rattle.table.proofs.step.position_number.Statement.{statement}
-use Rattle.table.proofs.step.position_number.Tie as tie
-use Rattle.table.proofs.step.position_number.Reads as reads
-use Rattle.table.proofs.step.position_number.Lts as lts
+use Rattle.table.proofs.dispatcher.position_number.Statement.{statement}
+use Rattle.table.proofs.dispatcher.position_number.Tie as tie
+use Rattle.table.proofs.dispatcher.position_number.Reads as reads
+use Rattle.table.proofs.dispatcher.position_number.Lts as lts
 
 -- src/step.rt:34:9
 returns : tie.Need-returns

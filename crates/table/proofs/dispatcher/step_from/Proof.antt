@@ -1,4 +1,4 @@
--- `table::step::step_from` meets its contract: 24, then 25, then the step.
+-- `table::dispatcher::step_from` meets its contract: 24, then 25, then the step.
 -- Assumes nothing.
 use mathlib.Core.Path.{_≡_, refl, ap, sym, _∙_}
 use Prim.Native.Nat.{ℕ, _+_, _-_, _*_, _≤_, _<_}
@@ -7,17 +7,17 @@ use Rattle.table.specs.declared.records.Slot.{Slot}
 use Rattle.table.proofs.Fields.{end-small}
 use Rattle.table.proofs.Numbers.{formed, valid, form-short, form-head, stepped-form, stepped-position, stepped-fine}
 use borrow.Author.Needs.{needs}
-use Rattle.table.proofs.step.step_from.Statement.{statement}
-use Rattle.table.proofs.step.step_from.Tie as tie
-use Rattle.table.proofs.step.step_from.Reads as reads
-use Rattle.table.proofs.step.step_from.Lts as lts
+use Rattle.table.proofs.dispatcher.step_from.Statement.{statement}
+use Rattle.table.proofs.dispatcher.step_from.Tie as tie
+use Rattle.table.proofs.dispatcher.step_from.Reads as reads
+use Rattle.table.proofs.dispatcher.step_from.Lts as lts
 use Rattle.table.proofs.layout.table_of.Reads as table-of-reads
 use Rattle.table.proofs.sound.head_number.Reads as head-number-reads
-use Rattle.table.proofs.step.named.Reads as named-reads
-use Rattle.table.proofs.step.onward.Reads as onward-reads
-use Rattle.table.proofs.step.pointed.Reads as pointed-reads
-use Rattle.table.proofs.step.position_number.Reads as position-number-reads
-use Rattle.table.proofs.step.refused.Reads as refused-reads
+use Rattle.table.proofs.dispatcher.named.Reads as named-reads
+use Rattle.table.proofs.dispatcher.onward.Reads as onward-reads
+use Rattle.table.proofs.dispatcher.pointed.Reads as pointed-reads
+use Rattle.table.proofs.dispatcher.position_number.Reads as position-number-reads
+use Rattle.table.proofs.dispatcher.refused.Reads as refused-reads
 
 -- src/step.rt:100:9
 refused-requires : tie.Need-refused-requires

@@ -1,11 +1,11 @@
--- `table::step::pointed` meets its contract: past the last slot the bytes say 0.
+-- `table::dispatcher::pointed` meets its contract: past the last slot the bytes say 0.
 -- Assumes nothing.
 use Rattle.table.proofs.Fields.{slot-past}
 use borrow.Author.Needs.{needs}
-use Rattle.table.proofs.step.pointed.Statement.{statement}
-use Rattle.table.proofs.step.pointed.Tie as tie
-use Rattle.table.proofs.step.pointed.Reads as reads
-use Rattle.table.proofs.step.pointed.Lts as lts
+use Rattle.table.proofs.dispatcher.pointed.Statement.{statement}
+use Rattle.table.proofs.dispatcher.pointed.Tie as tie
+use Rattle.table.proofs.dispatcher.pointed.Reads as reads
+use Rattle.table.proofs.dispatcher.pointed.Lts as lts
 use Rattle.table.proofs.layout.slot_of.Reads as slot-of-reads
 
 -- src/step.rt:18:9

@@ -1,11 +1,11 @@
--- `table::step::onward` meets its contract: each test says which case holds.
+-- `table::dispatcher::onward` meets its contract: each test says which case holds.
 -- Assumes nothing.
 use borrow.Author.Tests.{lt-ltb, le-ltb, le-leb, lt-leb, eq-eqb, ne-eqb}
 use borrow.Author.Needs.{needs}
-use Rattle.table.proofs.step.onward.Statement.{statement}
-use Rattle.table.proofs.step.onward.Tie as tie
-use Rattle.table.proofs.step.onward.Reads as reads
-use Rattle.table.proofs.step.onward.Lts as lts
+use Rattle.table.proofs.dispatcher.onward.Statement.{statement}
+use Rattle.table.proofs.dispatcher.onward.Tie as tie
+use Rattle.table.proofs.dispatcher.onward.Reads as reads
+use Rattle.table.proofs.dispatcher.onward.Lts as lts
 use Rattle.table.proofs.records.Position.fresh.Reads as fresh-reads
 
 -- src/step.rt:68:16

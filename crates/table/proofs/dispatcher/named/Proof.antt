@@ -1,11 +1,11 @@
--- `table::step::named` meets its contract: each test says which case holds.
+-- `table::dispatcher::named` meets its contract: each test says which case holds.
 -- Assumes nothing.
 use borrow.Author.Tests.{lt-ltb, le-ltb, le-leb, lt-leb, eq-eqb, ne-eqb}
 use borrow.Author.Needs.{needs}
-use Rattle.table.proofs.step.named.Statement.{statement}
-use Rattle.table.proofs.step.named.Tie as tie
-use Rattle.table.proofs.step.named.Reads as reads
-use Rattle.table.proofs.step.named.Lts as lts
+use Rattle.table.proofs.dispatcher.named.Statement.{statement}
+use Rattle.table.proofs.dispatcher.named.Tie as tie
+use Rattle.table.proofs.dispatcher.named.Reads as reads
+use Rattle.table.proofs.dispatcher.named.Lts as lts
 
 -- src/step.rt:54:32
 add-if3 : tie.Need-add-if3
