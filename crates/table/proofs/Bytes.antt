@@ -1,8 +1,8 @@
 -- The bytes of a frame and its slots read back as them: they are a sound table where the slots are sound and fit their fields.
 -- Assumes nothing.
-use mathlib.Core.Path.{_≡_, refl, ap, sym, _∙_, subst}
+use mathlib.Core.Path.{_≡_, refl, ap, sym, _∙_}
 use mathlib.Core.List.{List, [], _∷_, _++_, append-assoc}
-use Prim.Native.Nat.{ℕ, zero, suc, _+_, _*_, _/_, _%_, _-_, _^_, _≤_, _<_}
+use Prim.Native.Nat.{ℕ, zero, suc, _+_, _*_, _/_, _^_, _≤_, _<_}
 use native.Mathlib.Nat.{not-suc-le-zero, le-of-suc-le-suc, zero-lt-suc}
 use native.Mathlib.Omega.{arith}
 use lib.Dec.{lit<}
@@ -11,7 +11,7 @@ use lib.Seq.{getD-append-add, take-at, drop-append-add, drop-drop, ext-getD}
 use Rattle.bits.specs.Field.{fieldOf}
 use Rattle.bits.proofs.Laws.{field-below}
 use Rattle.table.specs.declared.records.Slot.{Slot}
-use Rattle.table.specs.Layout.{mostFrame, mostSlots, idle, headSize, slotSize, tableOf, headZero, slotBit, slotOf, slotZero, slotsIn, noSlot, headBytes, slotBytes, slotsBytes, tableBytes}
+use Rattle.table.specs.Layout.{mostFrame, idle, headSize, slotSize, tableOf, headZero, slotBit, slotOf, slotZero, slotsIn, noSlot, headBytes, slotBytes, slotsBytes, tableBytes}
 use Rattle.table.specs.Slots.{slotAt, end, Sound, Fit}
 use Rattle.table.specs.Sound.{SoundTable}
 use Rattle.table.proofs.Packed.{Bytes, HeadSpelt, head-spelt, SlotSpelt, slot-spelt}

@@ -22,7 +22,7 @@ use types.Run.{look, look-raw, init, store-raw, forget, stop, hop, fld, from, lo
 use types.Part.{agg, whole, sub, look-in}
 use types.SemTy.{Body}
 use sound.WpLaws.{FmC, fmOf, WpFn-mono}
-use denote.RattleType.{RattleType, owns}
+use denote.RattleType.{owns}
 use denote.Memory.{mem}
 use denote.Laws.{Is, shows}
 use denote.Builtin.{u8}
