@@ -81,10 +81,10 @@ module _ (f : ℕ → Bool) where
   passes-before (suc k) i j h g =
       by-answer (f i)
       (λ e.
-      elim (ℕ-discrete i j) [
-        | yes q ↦ rw q at e
+        elim (ℕ-discrete i j) [
+          yes q ↦ rw q at e
         | no q ↦ passes-before k (suc i) j (lt-of-le-ne h q) (rw (from-pass k i e) at g)
-      ])
+        ])
       (λ e. absurd (let w = rw (from-hit k i e) at g in omega arith))
 
   pub fails-none : (k i : ℕ) → ((j : ℕ) → i ≤ j → j < i + k → f j ≡ true) → failsFrom f k i ≡ i + k
@@ -124,8 +124,8 @@ module _ (f : ℕ → Bool) where
   passes-is (suc k) i =
       by-answer (f i)
       (λ e.
-      let s : suc i + k ≡ i + suc k = omega arith in
-      passes-here k i e ∙ passes-is k (suc i) ∙ rw (s, from-pass k i e))
+        let s : suc i + k ≡ i + suc k = omega arith in
+        passes-here k i e ∙ passes-is k (suc i) ∙ rw (s, from-pass k i e))
       (λ e. passes-not k i e ∙ sym (ne-eqb (failsFrom f (suc k) i) (i + suc k) (let h = from-hit k i e in omega arith)))
 
   module _ (n : ℕ) where
@@ -147,3 +147,17 @@ module _ (f : ℕ → Bool) where
 
     pub passes-end : (i : ℕ) → i ≡ n → failsFrom f (n - i) i ≡ firstFail f n → passes f n ≡ true
     passes-end i h inv = passes-none .1 (sym (fails-end n i (omega arith) inv) ∙ h)
+
+-- two tests that agree fail first at one place
+fails-alike : (f g : ℕ → Bool) (k i : ℕ) → ((j : ℕ) → j < i + k → f j ≡ g j) → failsFrom f k i ≡ failsFrom g k i
+unfolding failsFrom
+fails-alike f g zero i h = refl
+fails-alike f g (suc k) i h =
+    let r = fails-alike f g k (suc i) (λ j l. h j (omega arith)) in
+    let s = h i (omega arith) in
+    by-answer (f i)
+    (λ e. from-pass f k i e ∙ r ∙ sym (from-pass g k i (sym s ∙ e)))
+    (λ e. from-hit f k i e ∙ sym (from-hit g k i (sym s ∙ e)))
+
+pub first-alike : (f g : ℕ → Bool) (n : ℕ) → ((j : ℕ) → j < n → f j ≡ g j) → firstFail f n ≡ firstFail g n
+first-alike f g n h = fails-alike f g n 0 (λ j l. h j (omega arith))

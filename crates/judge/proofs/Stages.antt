@@ -140,3 +140,18 @@ or-pass a b e = ap (λ (t : Bool). cond t b a) (eq-eqb (a .number) 0 e)
 pub or-hit : (a b : Answer) → (a .number ≡ 0 → ⊥) → orNext a b ≡ a
 unfolding orNext
 or-hit a b e = ap (λ (t : Bool). cond t b a) (ne-eqb (a .number) 0 e)
+
+-- code that stops at an answer x, or goes on to r
+pub or-stop : {x a : Answer} (b : Answer) → x ≡ a → (x .number ≡ 0 → ⊥) → x ≡ orNext a b
+or-stop {x} b e ne = sym (or-hit x b ne) ∙ ap (λ (y : Answer). orNext y b) e
+
+pub or-go : {x a b r : Answer} → x ≡ a → x .number ≡ 0 → r ≡ b → r ≡ orNext a b
+or-go {x} {a} {b} e z g = g ∙ sym (or-pass x b z) ∙ ap (λ (y : Answer). orNext y b) e
+
+-- answers in a row may be taken together
+pub or-together : (a b c : Answer) → orNext (orNext a b) c ≡ orNext a (orNext b c)
+or-together a b c = go (ℕ-discrete (a .number) 0)
+  where
+    go : Dec (a .number ≡ 0) → orNext (orNext a b) c ≡ orNext a (orNext b c)
+    go (yes z) = ap (λ (y : Answer). orNext y c) (or-pass a b z) ∙ sym (or-pass a (orNext b c) z)
+    go (no ne) = ap (λ (y : Answer). orNext y c) (or-hit a b ne) ∙ or-hit a c ne ∙ sym (or-hit a (orNext b c) ne)
