@@ -122,3 +122,17 @@ pub fn step_from(table: &[u8], position: Position) -> Moved
         position: next,
     }
 }
+
+// One step, with the position lent: the call itself updates it, and leaves it as it is on a refusal.
+pub fn step(table: &[u8], position: &mut Position) -> Stepped
+    ensures { λ r. ⌜ (r .number ≡ stepped (now (table .entry)) (now (position .entry)) .number)
+        × (r .partition ≡ stepped (now (table .entry)) (now (position .entry)) .partition)
+        × (now (position .exit) ≡ stepped (now (table .entry)) (now (position .entry)) .position) ⌝ }
+{
+    let m = step_from(table, *position);
+    *position = m.position;
+    Stepped {
+        number: m.number,
+        partition: m.partition,
+    }
+}
