@@ -34,10 +34,7 @@ pub fn table_at(table: &[u8]) -> Table
     if Table::HEAD_BYTES <= table.len() {
         table::layout::table_of(table)
     } else {
-        Table {
-            frame: 0,
-            slots: 0,
-        }
+        Table { frame: 0, slots: 0 }
     }
 }
 

@@ -59,28 +59,29 @@ module _ (s : Sheet) (delays : List (List ℕ)) (T B ms ts : List ℕ) (running 
       let next = right-next s delays T B ms ts in
       let pairs : (i k : ℕ) → i < k → k < n → Says (c2 T B ms ts i k) (C2 T B ms ts i k) =
       λ i k h l.
-        let a = running i (omega arith) in
-        let b = running k l in
-        c2-says T B ms ts i k (a .0) (b .0) (a .1) (b .1)
+      let a = running i (omega arith) in
+      let b = running k l in
+      c2-says T B ms ts i k (a .0) (b .0) (a .1) (b .1)
       in
       next 0 _ _ (each-judges 1 n (c1 M ms) (C1 M ms) (λ i h. c1-says M ms i)) (none-before s delays T B ms ts)
       λ b1. next 1 _ _ (pairs-judge 2 n (c2 T B ms ts) (C2 T B ms ts) pairs) b1
       λ b2. next 2 _ _ (each-judges 3 n (c3 T B ts) (C3 T B ts) (λ i h. c3-says T B ts i)) b2
       λ b3.
-        next 3 _ _ (each-judges 4 M (c4 (s .modules) (memoriesOf s) ms n) (C4 (s .modules) (memoriesOf s) ms n) (λ m h. c4-says (s .modules) (memoriesOf s) ms n m)) b3
-        λ b4. next 4 _ _ (each-judges 5 M (c5 (s .modules) ms n) (C5 (s .modules) ms n) (λ m h. c5-says (s .modules) ms n m)) b4
-        λ b5.
-          next 5 _ _ (each-judges 6 (s .head .exclusions) (λ x. c6 ms (exclusionAt s x)) (λ x. C6 ms (exclusionAt s x)) (λ x h. c6-says ms (exclusionAt s x))) b5
-          λ b6.
-            next 6 _ _ (each-judges 7 (s .head .exclusions) (λ x. c7 (s .modules) ms (exclusionAt s x)) (λ x. C7 (s .modules) ms (exclusionAt s x)) (λ x h. c7-says (s .modules) ms (exclusionAt s x))) b6
-            λ b7.
-              right-last s delays T B ms ts _ (each-judges 8 (s .head .chains) (λ c. c8 T B delays ms (chainAt s c)) (λ c. C8 T B delays ms (chainAt s c)) (λ c h. c8-says T B delays ms (chainAt s c))) b7
+      next 3 _ _ (each-judges 4 M (c4 (s .modules) (memoriesOf s) ms n) (C4 (s .modules) (memoriesOf s) ms n) (λ m h. c4-says (s .modules) (memoriesOf s) ms n m)) b3
+      λ b4. next 4 _ _ (each-judges 5 M (c5 (s .modules) ms n) (C5 (s .modules) ms n) (λ m h. c5-says (s .modules) ms n m)) b4
+      λ b5.
+      next 5 _ _ (each-judges 6 (s .head .exclusions) (λ x. c6 ms (exclusionAt s x)) (λ x. C6 ms (exclusionAt s x)) (λ x h. c6-says ms (exclusionAt s x))) b5
+      λ b6.
+      next 6 _ _ (each-judges 7 (s .head .exclusions) (λ x. c7 (s .modules) ms (exclusionAt s x)) (λ x. C7 (s .modules) ms (exclusionAt s x)) (λ x h. c7-says (s .modules) ms (exclusionAt s x))) b6
+      λ b7.
+      right-last s delays T B ms ts _ (each-judges 8 (s .head .chains) (λ c. c8 T B delays ms (chainAt s c)) (λ c. C8 T B delays ms (chainAt s c)) (λ c h. c8-says T B delays ms (chainAt s c))) b7
 
   -- 0 exactly when C1 to C8 hold, C2 over all ticks
   pub accepted-exactly : verdict s delays T B ms ts .number ≡ 0 ↔ Accepted s delays T B ms ts
-  accepted-exactly =
-      (right-zero s delays T B ms ts _ verdict-right,
-      λ all. ap (λ (a : Answer). a .number) (right-accepted s delays T B ms ts _ verdict-right all))
+  accepted-exactly = (
+    right-zero s delays T B ms ts _ verdict-right,
+    λ all. ap (λ (a : Answer). a .number) (right-accepted s delays T B ms ts _ verdict-right all),
+  )
 
   -- else the first broken constraint with its first place
   pub names-the-first : (verdict s delays T B ms ts .number ≡ 0 → ⊥) → FirstBroken s delays T B ms ts (verdict s delays T B ms ts)
@@ -105,9 +106,10 @@ module _ (s : Sheet) (delays : List (List ℕ)) (p : Plan) (fair : Fair s delays
       (verdict-right s delays (periodsOf s) (budgetsOf s) (p .modules) (p .starts) (runs s delays fair))
 
   pub judged-accepts-exactly : judged s delays p .number ≡ 0 ↔ Accepted s delays (periodsOf s) (budgetsOf s) (p .modules) (p .starts)
-  judged-accepts-exactly =
-      (right-zero s delays (periodsOf s) (budgetsOf s) (p .modules) (p .starts) _ judged-right,
-      λ all. ap (λ (a : Answer). a .number) (right-accepted s delays (periodsOf s) (budgetsOf s) (p .modules) (p .starts) _ judged-right all))
+  judged-accepts-exactly = (
+    right-zero s delays (periodsOf s) (budgetsOf s) (p .modules) (p .starts) _ judged-right,
+    λ all. ap (λ (a : Answer). a .number) (right-accepted s delays (periodsOf s) (budgetsOf s) (p .modules) (p .starts) _ judged-right all),
+  )
 
   pub judged-names-the-first : (judged s delays p .number ≡ 0 → ⊥)
       → FirstBroken s delays (periodsOf s) (budgetsOf s) (p .modules) (p .starts) (judged s delays p)

@@ -1,7 +1,7 @@
+-- `budget_of` meets its contract. Assumes nothing.
 use native.Mathlib.Omega.{arith}
 use Rattle.bits.proofs.Laws.{field-below}
 use Rattle.ghozrembu.proofs.LookLaws.{budget-of-four, budget-of-others}
-
 use borrow.Author.Needs.{needs}
 use Rattle.ghozrembu.proofs.looks.budget_of.Statement.{statement}
 use Rattle.ghozrembu.proofs.looks.budget_of.Tie as tie

@@ -1,9 +1,9 @@
+-- `counts_of` meets its contract. Assumes nothing.
 use native.Mathlib.Omega.{arith}
 use mathlib.Core.Path.{ap, sym, _∙_}
 use Rattle.model.specs.declared.records.Head.{Head}
 use Rattle.reader.proofs.Fits.{head-fits, head-zero}
 use Rattle.ghozrembu.proofs.LookLaws.{counts-refused, counts-stand}
-
 use borrow.Author.Needs.{needs}
 use Rattle.ghozrembu.proofs.looks.counts_of.Statement.{statement}
 use Rattle.ghozrembu.proofs.looks.counts_of.Tie as tie

@@ -1,6 +1,6 @@
+-- `slot_at` meets its contract. Assumes nothing.
 use native.Mathlib.Omega.{arith}
 use Rattle.ghozrembu.proofs.LookLaws.{slot-there, slot-cut, slot-beyond}
-
 use borrow.Author.Needs.{needs}
 use Rattle.ghozrembu.proofs.looks.slot_at.Statement.{statement}
 use Rattle.ghozrembu.proofs.looks.slot_at.Tie as tie

@@ -1,6 +1,6 @@
+-- `table_at` meets its contract. Assumes nothing.
 use native.Mathlib.Omega.{arith}
 use Rattle.ghozrembu.proofs.LookLaws.{table-there, table-not-there}
-
 use borrow.Author.Needs.{needs}
 use Rattle.ghozrembu.proofs.looks.table_at.Statement.{statement}
 use Rattle.ghozrembu.proofs.looks.table_at.Tie as tie
