@@ -8,9 +8,9 @@ ghost use Rattle.judge.specs.Places.{firstFail};
 ghost use Rattle.judge.specs.Constraints.{c6, c7};
 ghost use Rattle.judge.specs.Asked.{BothPlaced};
 ghost use Rattle.judge.specs.Verdict.{brokenAt, orNext};
+use crate::Answer;
 use crate::widths::index;
 use crate::widths::member;
-use crate::Answer;
 use model::records::Exclusion;
 use model::records::Module;
 use model::records::Sheet;
@@ -30,7 +30,11 @@ pub fn apart_by_module(x: Exclusion, modules: &[u32; Sheet::PARTITIONS]) -> bool
 }
 
 // C7 of one exclusion.
-pub fn apart_by_cabinet(x: Exclusion, rooms: [Module; Sheet::MODULES], modules: &[u32; Sheet::PARTITIONS]) -> bool
+pub fn apart_by_cabinet(
+    x: Exclusion,
+    rooms: [Module; Sheet::MODULES],
+    modules: &[u32; Sheet::PARTITIONS],
+) -> bool
     requires { ⌜ BothPlaced (now modules) x ⌝ }
     ensures { λ r. ⌜ r ≡ c7 rooms (now (modules .entry)) x ⌝ }
 {
@@ -46,7 +50,11 @@ pub fn apart_by_cabinet(x: Exclusion, rooms: [Module; Sheet::MODULES], modules: 
 }
 
 // C6: the lowest exclusion entry whose two are on one module; the count where there is none.
-pub fn shared_module(exclusions: [Exclusion; Sheet::EXCLUSIONS], count: usize, modules: &[u32; Sheet::PARTITIONS]) -> usize
+pub fn shared_module(
+    exclusions: [Exclusion; Sheet::EXCLUSIONS],
+    count: usize,
+    modules: &[u32; Sheet::PARTITIONS],
+) -> usize
     requires { ⌜ count ≤ mostExclusions ⌝ }
     requires { ⌜ ((x : ℕ) → x < count → BothPlaced (now modules) (getD exclusions x noExclusion)) ⌝ }
     ensures { λ r. ⌜ r ≡ firstFail (λ x. c6 (now (modules .entry)) (getD exclusions x noExclusion)) count ⌝ }
@@ -63,7 +71,12 @@ pub fn shared_module(exclusions: [Exclusion; Sheet::EXCLUSIONS], count: usize, m
 }
 
 // C7: the lowest exclusion entry whose two are in one cabinet; the count where there is none.
-pub fn shared_cabinet(exclusions: [Exclusion; Sheet::EXCLUSIONS], count: usize, rooms: [Module; Sheet::MODULES], modules: &[u32; Sheet::PARTITIONS]) -> usize
+pub fn shared_cabinet(
+    exclusions: [Exclusion; Sheet::EXCLUSIONS],
+    count: usize,
+    rooms: [Module; Sheet::MODULES],
+    modules: &[u32; Sheet::PARTITIONS],
+) -> usize
     requires { ⌜ count ≤ mostExclusions ⌝ }
     requires { ⌜ ((x : ℕ) → x < count → BothPlaced (now modules) (getD exclusions x noExclusion)) ⌝ }
     ensures { λ r. ⌜ r ≡ firstFail (λ x. c7 rooms (now (modules .entry)) (getD exclusions x noExclusion)) count ⌝ }
@@ -80,7 +93,12 @@ pub fn shared_cabinet(exclusions: [Exclusion; Sheet::EXCLUSIONS], count: usize, 
 }
 
 // C6, then C7: the lowest exclusion entry that is broken.
-pub fn broken_exclusion(exclusions: [Exclusion; Sheet::EXCLUSIONS], count: usize, rooms: [Module; Sheet::MODULES], modules: &[u32; Sheet::PARTITIONS]) -> Answer
+pub fn broken_exclusion(
+    exclusions: [Exclusion; Sheet::EXCLUSIONS],
+    count: usize,
+    rooms: [Module; Sheet::MODULES],
+    modules: &[u32; Sheet::PARTITIONS],
+) -> Answer
     requires { ⌜ count ≤ mostExclusions ⌝ }
     requires { ⌜ ((x : ℕ) → x < count → BothPlaced (now modules) (getD exclusions x noExclusion)) ⌝ }
     ensures { λ r. ⌜ r ≡ orNext (brokenAt 6 (firstFail (λ x. c6 (now (modules .entry)) (getD exclusions x noExclusion)) count) count) (brokenAt 7 (firstFail (λ x. c7 rooms (now (modules .entry)) (getD exclusions x noExclusion)) count) count) ⌝ }
