@@ -1,16 +1,16 @@
 -- The verdict in four parts, as the code goes through it: placements (C1 to C3), rooms (C4, C5), exclusions (C6, C7), chains (C8); and what
 -- a part that is not broken tells the next ones. Assumes nothing.
-use mathlib.Core.Path.{_≡_, refl, ap, _∙_, sym, subst}
+use mathlib.Core.Path.{_≡_, refl, ap, ap₂, _∙_, sym, subst}
 use mathlib.Core.Bool.{Bool, true, false, cond}
 use mathlib.Core.List.{List}
 use Prim.Native.Nat.{ℕ, suc, _≤_, _<_}
 use native.Mathlib.Omega.{arith}
 use native.Mathlib.Decide.{ℕ-discrete}
+use borrow.Author.Tests.{ltb-false}
 use lib.Dec.{ltb}
 use lib.ListN.{getD}
-use borrow.Author.Tests.{ltb-false}
-use Rattle.model.specs.Limits.{mostModules, mostPartitions, mostMembers}
-use Rattle.model.specs.Fair.{Fair, FairExclusion, FairChain}
+use Rattle.model.specs.Limits.{mostModules, mostMembers}
+use Rattle.model.specs.Fair.{Fair}
 use Rattle.model.specs.None.{noPartition}
 use Rattle.model.specs.Columns.{periodsOf, budgetsOf, memoriesOf}
 use Rattle.model.specs.declared.columns.Column.the-variants.{Period, Budget}
@@ -21,9 +21,9 @@ use Rattle.judge.specs.Places.{firstFail}
 use Rattle.judge.specs.Constraints.{at, C1, c1, c3, c4, c5, c6, c7, c8}
 use Rattle.judge.specs.Verdict.{accepted, brokenAt, brokenPair, orNext, verdict, exclusionAt, chainAt}
 use Rattle.judge.specs.Asked.{Placed, BothPlaced, AllPlaced, Ready}
-use Rattle.judge.proofs.Places.{first-within, first-passes}
+use Rattle.judge.proofs.Places.{first-passes}
 use Rattle.judge.proofs.Exact.{says-yes, c1-says}
-use Rattle.judge.proofs.Stages.{or-pass, or-hit, or-together}
+use Rattle.judge.proofs.Stages.{or-hit, or-together}
 
 abbrev pub roomBy : Sheet → (memories ms : List ℕ) → Answer
 roomBy s memories ms =
@@ -54,6 +54,15 @@ module _ (s : Sheet) (delays : List (List ℕ)) (T B ms ts : List ℕ) where
       or-together _ _ _
       ∙ ap (orNext _)
       (or-together _ _ _ ∙ ap (orNext _) (ap (orNext _) (or-together _ _ _ ∙ ap (orNext _) (ap (orNext _) (or-together _ _ _)))))
+
+-- the memories, the periods and the budgets, by what they are
+pub room-by : (s : Sheet) (ms : List ℕ) {a : Answer} {memories : List ℕ} → a ≡ roomBy s memories ms → memories ≡ memoriesOf s
+    → a ≡ roomBy s (memoriesOf s) ms
+room-by s ms e g = e ∙ ap (λ (l : List ℕ). roomBy s l ms) g
+
+pub verdict-by : (s : Sheet) (delays : List (List ℕ)) (ms ts : List ℕ) {a : Answer} {T T′ B B′ : List ℕ} → a ≡ verdict s delays T B ms ts
+    → T ≡ T′ → B ≡ B′ → a ≡ verdict s delays T′ B′ ms ts
+verdict-by s delays ms ts e f g = e ∙ ap₂ (λ (T B : List ℕ). verdict s delays T B ms ts) f g
 
 -- ---- what an answer without a number tells
 number-of : Answer → ℕ

@@ -4,26 +4,25 @@
 -- of a fair sheet with starts that fit (`judged`). Assumes nothing.
 use mathlib.Core.Path.{_≡_, refl, ap, _∙_, sym, subst}
 use mathlib.Core.List.{List}
-use mathlib.Core.Logic.{_⊎_, inl, inr, _↔_}
-use Prim.Native.Nat.{ℕ, zero, suc, _^_, _<_, _≤_}
+use mathlib.Core.Logic.{inl, inr, _↔_}
+use Prim.Native.Nat.{ℕ, _^_, _<_}
 use native.Mathlib.Omega.{arith}
-use native.Mathlib.Nat.{le-trans}
 use Rattle.numbers.specs.First.{all-none}
 use Rattle.overlap.specs.Overlap.{Says}
 use Rattle.model.specs.Widths.{startBits}
 use Rattle.model.specs.Fair.{Fair}
-use Rattle.model.specs.Decoded.{decodedNumber, startsNumber, large}
+use Rattle.model.specs.Decoded.{startsNumber, large}
 use Rattle.model.specs.Columns.{periodsOf, budgetsOf, memoriesOf}
 use Rattle.model.specs.declared.records.Sheet.{Sheet}
 use Rattle.model.specs.declared.records.Plan.{Plan}
 use Rattle.model.proofs.Fairness.{fair-number, fits-large}
 use Rattle.judge.specs.declared.Answer.{Answer}
 use Rattle.judge.specs.Constraints.{at, C1, C2, C3, C4, C5, C6, C7, C8, c1, c2, c3, c4, c5, c6, c7, c8}
-use Rattle.judge.specs.Verdict.{accepted, refused, orNext, Accepted, verdict, judged, exclusionAt, chainAt}
-use Rattle.judge.specs.Meaning.{Everywhere, Earlier, Running, constraint, FirstBroken, Right}
+use Rattle.judge.specs.Verdict.{accepted, Accepted, verdict, judged, exclusionAt, chainAt}
+use Rattle.judge.specs.Meaning.{Running, constraint, FirstBroken, Right}
 use Rattle.judge.proofs.Exact.{c1-says, c2-says, c3-says, c4-says, c5-says, c6-says, c7-says, c8-says}
-use Rattle.judge.proofs.Stages.{each-judges, pairs-judge, or-pass, or-hit}
-use Rattle.judge.proofs.Right.{none-before, right-next, right-last, right-unique, broken-number, not-broken}
+use Rattle.judge.proofs.Stages.{each-judges, pairs-judge, or-pass}
+use Rattle.judge.proofs.Right.{none-before, right-next, right-last, right-unique, broken-number}
 use Rattle.judge.proofs.Parts.{runs}
 
 -- ---- what a right answer says
