@@ -1,0 +1,2 @@
+//! placeholder
+pub fn run() -> ! { std::process::exit(2) }
