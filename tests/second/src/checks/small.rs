@@ -8,7 +8,7 @@ use second::reference::numbers::{DONE, NONE, STOPPED};
 use second::reference::search::{answer, answer_by_definition, plan_bytes};
 use second::reference::table::{covering, table_of};
 use second::reference::ticks::{first_meeting, Run};
-use second::reference::{judge::run_of, Placement, Sheet};
+use second::reference::{judge::run_of, Module, Partition, Placement, Sheet};
 use second::worlds::{pair, starts, tiny};
 use second::write::{sheet_bytes, sheet_fields, with_field};
 
@@ -147,11 +147,54 @@ fn all_field_values(compare: &mut Compare) -> Checked {
     Ok(())
 }
 
+/// Heads of every version and spare with counts at and past the ends of their ranges: alone, and before zero bytes.
+fn all_heads(compare: &mut Compare) -> Checked {
+    for start in 0..32u32 {
+        for modules in [0, 1, 16, 17, 31] {
+            for partitions in [0, 1, 64, 65, 127] {
+                for exclusions in [0, 400, 401, 511] {
+                    for chains in [0, 32, 33, 63] {
+                        let counts = modules << 23 | partitions << 16 | exclusions << 7 | chains << 1;
+                        let head = ((start >> 1) << 28 | counts | (start & 1)).to_be_bytes();
+                        compare.sheet(&head)?;
+                        compare.judge(&[&head[..], &[0; 20]].concat(), &[])?;
+                    }
+                }
+            }
+        }
+    }
+    Ok(())
+}
+
+/// Many partitions of small periods on two modules: which of several overlapping pairs is named.
+fn first_pairs(compare: &mut Compare) -> Checked {
+    let mut random = Random::new(24);
+    let mut named = std::collections::BTreeSet::new();
+    for _ in 0..20_000 {
+        let n = random.between(4, 7);
+        let period = |random: &mut Random| random.one_of(&[6, 12, 18, 24, 30]);
+        let partitions = (0..n).map(|_| Partition { period: period(&mut random), budget: 1, memory: 0 }).collect();
+        let modules = vec![Module { cabinet: 0, memory: 0, most: 64 }; 2];
+        let delays = vec![vec![0; 2]; 2];
+        let sheet = Sheet { modules, delays, partitions, exclusions: vec![], chains: vec![] };
+        let place = |random: &mut Random| Placement { module: random.below(2) as usize, start: random.below(6) };
+        let plan: Vec<Placement> = (0..n).map(|_| place(&mut random)).collect();
+        let got = compare.judge(&sheet_bytes(&sheet), &plan_bytes(&plan))?;
+        named.insert((got.first, got.second));
+    }
+    if named.len() < 18 {
+        return Err(format!("only these were named: {named:?}"));
+    }
+    Ok(())
+}
+
 pub fn checks() -> Vec<Check> {
     vec![
         check("all pairs of T, B, start with T up to 8: judged, built, stepped over three frames", all_pairs),
         check("all plans of 400 tiny sheets, and the search by the definition of tries", all_plans),
         check("every budget around the needed count of 500 tiny sheets", all_budgets),
+        check("heads of every version and spare, with counts at the ends of their ranges", all_heads),
+        check("the first pair of many that overlap", first_pairs),
         check("each field of 40 small sheets at all its values, or at the ends of its range", all_field_values),
     ]
 }
