@@ -2,6 +2,7 @@
 
 use crate::random::Random;
 use crate::reference::bits::bytes_of;
+use crate::reference::judge::chain_delay;
 use crate::reference::search::plan_bytes;
 use crate::reference::{
     build, judge, search, sheet_number, step, table_number, Chain, Exclusion, Module, Partition, Placement, Position,
@@ -212,16 +213,6 @@ fn chain(random: &mut Random, n: usize, longest: u64) -> Chain {
         members.push(if other >= *members.last().expect("one is there") { other + 1 } else { other });
     }
     Chain { limit: random.below(1 << 24), members }
-}
-
-/// The delay that C8 sums for a chain.
-fn chain_delay(sheet: &Sheet, plan: &[Placement], chain: &Chain) -> u64 {
-    let neighbours = chain.members.windows(2);
-    let steps = neighbours.map(|two| {
-        let delay = sheet.delays[plan[two[0]].module][plan[two[1]].module];
-        sheet.partitions[two[0]].budget + sheet.partitions[two[1]].period + delay
-    });
-    steps.sum()
 }
 
 /// One more, one less or exactly as many, but for a small number of cases: limits that bite or just do not.

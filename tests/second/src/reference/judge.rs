@@ -1,6 +1,6 @@
 //! The judge: C1 to C8, one after the other ("The eight constraints").
 
-use super::sheet::{read_plan, read_sheet, Placement, Sheet};
+use super::sheet::{read_plan, read_sheet, Chain, Placement, Sheet};
 use super::ticks::{apart, Run};
 
 /// A constraint or another number, and two places.
@@ -76,20 +76,20 @@ fn c7(sheet: &Sheet, plan: &[Placement]) -> Option<usize> {
     sheet.exclusions.iter().position(|e| e.second < plan.len() && e.cabinet && cabinet(e.first) == cabinet(e.second))
 }
 
+/// The sum over neighbouring members (i, then k) of Bi + Tk + the delay from i's module to k's module.
+pub fn chain_delay(sheet: &Sheet, plan: &[Placement], chain: &Chain) -> u64 {
+    let step = |i: usize, k: usize| {
+        sheet.partitions[i].budget + sheet.partitions[k].period + sheet.delays[plan[i].module][plan[k].module]
+    };
+    chain.members.windows(2).map(|two| step(two[0], two[1])).sum()
+}
+
 fn c8(sheet: &Sheet, plan: &[Placement]) -> Option<usize> {
     sheet.chains.iter().position(|chain| {
         if chain.members.iter().any(|member| *member >= plan.len()) {
             return false;
         }
-        let delay: u64 = chain
-            .members
-            .windows(2)
-            .map(|two| {
-                let (i, k) = (two[0], two[1]);
-                sheet.partitions[i].budget + sheet.partitions[k].period + sheet.delays[plan[i].module][plan[k].module]
-            })
-            .sum();
-        delay > chain.limit
+        chain_delay(sheet, plan, chain) > chain.limit
     })
 }
 
