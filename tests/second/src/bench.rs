@@ -129,8 +129,12 @@ fn tries(name: &str, sheet: &Sheet) {
         name,
         u64::from(BUDGET),
         true,
-        &mut || { _ = black_box(library::plain_search(black_box(&bytes), BUDGET, &mut one)); },
-        &mut || { _ = black_box(fast::search(black_box(&bytes), BUDGET, &mut two)); },
+        &mut || {
+            _ = black_box(library::plain_search(black_box(&bytes), BUDGET, &mut one));
+        },
+        &mut || {
+            _ = black_box(fast::search(black_box(&bytes), BUDGET, &mut two));
+        },
     );
 }
 
@@ -142,8 +146,12 @@ fn judged(name: &str, world: &World, number: u8) {
         name,
         1,
         false,
-        &mut || { _ = black_box(library::plain_judge(black_box(&sheet), &plan)); },
-        &mut || { _ = black_box(fast::judge(black_box(&sheet), &plan)); },
+        &mut || {
+            _ = black_box(library::plain_judge(black_box(&sheet), &plan));
+        },
+        &mut || {
+            _ = black_box(fast::judge(black_box(&sheet), &plan));
+        },
     );
 }
 
@@ -164,8 +172,12 @@ pub fn run() -> ! {
         "sheet test, 2,142 bytes",
         1,
         false,
-        &mut || { _ = black_box(library::plain_sheet_number(black_box(&bytes))); },
-        &mut || { _ = black_box(fast::sheet_number(black_box(&bytes))); },
+        &mut || {
+            _ = black_box(library::plain_sheet_number(black_box(&bytes)));
+        },
+        &mut || {
+            _ = black_box(fast::sheet_number(black_box(&bytes)));
+        },
     );
     judged("judge of the largest sheet, accepted", &largest, DONE);
     judged("judge of 64 partitions on one module, to its exclusions", &one_module(), 6);
@@ -177,23 +189,39 @@ pub fn run() -> ! {
         "build of the largest table, 1,024 slots",
         1,
         false,
-        &mut || { _ = black_box(library::plain_build(black_box(&sheet), &plan, 0, &mut one)); },
-        &mut || { _ = black_box(fast::build(black_box(&sheet), &plan, 0, &mut two)); },
+        &mut || {
+            _ = black_box(library::plain_build(black_box(&sheet), &plan, 0, &mut one));
+        },
+        &mut || {
+            _ = black_box(fast::build(black_box(&sheet), &plan, 0, &mut two));
+        },
     );
     line(
         "table test, 1,024 slots",
         1,
         false,
-        &mut || { _ = black_box(library::plain_table_number(black_box(&one))); },
-        &mut || { _ = black_box(fast::table_number(black_box(&two))); },
+        &mut || {
+            _ = black_box(library::plain_table_number(black_box(&one)));
+        },
+        &mut || {
+            _ = black_box(fast::table_number(black_box(&two)));
+        },
     );
     let (mut here, mut there) = (Position::fresh(), Position::fresh());
     line(
         "step, over the largest table",
         1_000,
         false,
-        &mut || (0..1_000).for_each(|_| { _ = black_box(library::plain_step(black_box(&one), &mut here)); }),
-        &mut || (0..1_000).for_each(|_| { _ = black_box(fast::step(black_box(&two), &mut there)); }),
+        &mut || {
+            (0..1_000).for_each(|_| {
+                _ = black_box(library::plain_step(black_box(&one), &mut here));
+            })
+        },
+        &mut || {
+            (0..1_000).for_each(|_| {
+                _ = black_box(fast::step(black_box(&two), &mut there));
+            })
+        },
     );
     tries("tries: 8 partitions, periods of some hundreds, 2 modules", &short_periods());
     tries("tries: 6 partitions, periods of some ten thousands, 2 modules", &long_periods());

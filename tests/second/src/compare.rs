@@ -97,7 +97,8 @@ impl Compare {
         };
         let (mut expected, mut got, mut quick) = (before.to_vec(), before.to_vec(), before.to_vec());
         let answer = reference::build(sheet, plan, module, &mut expected);
-        let answered = self.library.build(sheet, plan, module, &mut got).map_err(|what| format!("{what}: {}", said()))?;
+        let answered =
+            self.library.build(sheet, plan, module, &mut got).map_err(|what| format!("{what}: {}", said()))?;
         let quickly = fast::build(sheet, plan, module, &mut quick);
         self.same(2, answer.number, &(answered, got), &(answer, expected.clone()), &(quickly, quick), said)?;
         Ok((answer, expected))

@@ -51,12 +51,7 @@ pub fn all() -> Vec<Example> {
     let place = |module, start| Placement { module, start };
     vec![
         Example { folder: "sheet-a", sheet: sheet_a(), plan: starts(&[0, 1]), budget: 3 },
-        Example {
-            folder: "single-tick",
-            sheet: pair((4_094, 1), (4_096, 2)),
-            plan: starts(&[0, 1]),
-            budget: 100_000,
-        },
+        Example { folder: "single-tick", sheet: pair((4_094, 1), (4_096, 2)), plan: starts(&[0, 1]), budget: 100_000 },
         Example { folder: "none", sheet: pair((2, 1), (3, 1)), plan: starts(&[0, 1]), budget: 8 },
         Example {
             folder: "station",

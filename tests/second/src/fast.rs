@@ -370,8 +370,8 @@ pub fn search(sheet: &[u8], budget: u32, buffer: &mut [u8]) -> Found {
     }
     let mut divisor = vec![[0; PARTITIONS]; n];
     for (j, row) in divisor.iter_mut().enumerate() {
-        for i in 0..j {
-            row[i] = gcd(sheet.period[i], sheet.period[j]);
+        for (i, divisor) in row[..j].iter_mut().enumerate() {
+            *divisor = gcd(sheet.period[i], sheet.period[j]);
         }
     }
     let mut exclusions = vec![vec![]; n];

@@ -57,7 +57,7 @@ fn numbers_met(compare: &mut Compare) -> Checked {
         match number {
             9 => continue,
             19 => {
-                println!("{number:>6}      {}", "cannot occur on bytes: every value fits the field that it was read from");
+                println!("{number:>6}      cannot occur on bytes: every value fits the field that it was read from");
                 continue;
             }
             _ => print!("{number:>6}"),

@@ -188,15 +188,8 @@ fn table_text() -> String {
 
 /// The delays between m modules: 0 on the diagonal, elsewhere below `most`.
 fn delays(random: &mut Random, m: usize, most: u64) -> Vec<Vec<u64>> {
-    let mut rows = vec![vec![0; m]; m];
-    for from in 0..m {
-        for to in 0..m {
-            if from != to {
-                rows[from][to] = random.below(most);
-            }
-        }
-    }
-    rows
+    let mut row = |from: usize| (0..m).map(|to| if from == to { 0 } else { random.below(most) }).collect();
+    (0..m).map(&mut row).collect()
 }
 
 /// An exclusion of two of n partitions, n at least 2.
@@ -293,11 +286,8 @@ fn limits(random: &mut Random, m: usize, partitions: Vec<Partition>, plan: Vec<P
         for _ in 0..random.below(most_exclusions + 1) {
             let mut entry = exclusion(random, n);
             let (one, two) = (plan[entry.first].module, plan[entry.second].module);
-            let kept = if entry.cabinet {
-                sheet.modules[one].cabinet != sheet.modules[two].cabinet
-            } else {
-                one != two
-            };
+            let kept =
+                if entry.cabinet { sheet.modules[one].cabinet != sheet.modules[two].cabinet } else { one != two };
             if !kept && one != two {
                 entry.cabinet = false;
             }

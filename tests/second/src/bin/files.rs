@@ -42,7 +42,8 @@ fn expected(program: &str, folder: &Path, word: Option<&str>) -> Left {
         }
         _ => {
             let (printed, tables) = builder_listing(&sheet, &plan);
-            let named = |word: &str| tables.iter().map(|(j, bytes)| (format!("{word}{j:02}.bin"), bytes.clone())).collect();
+            let named =
+                |word: &str| tables.iter().map(|(j, bytes)| (format!("{word}{j:02}.bin"), bytes.clone())).collect();
             Left { printed, written: word.map_or(vec![], named) }
         }
     }
@@ -59,7 +60,8 @@ fn listing(program: &str, folder: &Path, word: Option<&str>) {
 
 /// One line a tick: its number, and the partition whose execution covers it or `idle`.
 fn dispatch(folder: &Path, module: usize, ticks: u64) {
-    let sheet = read_sheet(&file(folder, "sheet.bin")).unwrap_or_else(|number| stop(&format!("the sheet is refused: {number}")));
+    let sheet = read_sheet(&file(folder, "sheet.bin"))
+        .unwrap_or_else(|number| stop(&format!("the sheet is refused: {number}")));
     let plan = read_plan(&file(folder, "plan.bin"), sheet.partitions.len());
     let plan = plan.unwrap_or_else(|number| stop(&format!("the plan is refused: {number}")));
     for tick in 0..ticks {
@@ -144,7 +146,9 @@ fn own_folder() -> PathBuf {
 /// All three programs on the files, without and with an argument; says what differs.
 fn compared(bin: &Path, files: &Files, runs: &mut u64) -> Result<(), String> {
     let folder = own_folder();
-    for (program, words) in [("judge", &[None][..]), ("search", &[None, Some("found.out")]), ("build", &[None, Some("table")])] {
+    for (program, words) in
+        [("judge", &[None][..]), ("search", &[None, Some("found.out")]), ("build", &[None, Some("table")])]
+    {
         for word in words {
             files.lay(&folder);
             let left = ran(bin, program, &folder, *word);
@@ -187,7 +191,8 @@ fn cases() -> Vec<(String, Vec<Files>)> {
     });
     let empty = (0..8).map(|set| {
         with(&|f| {
-            let cut = |bytes: &mut Option<Vec<u8>>, bit: i32| bytes.as_mut().filter(|_| set & bit != 0).map(|b| b.clear());
+            let cut =
+                |bytes: &mut Option<Vec<u8>>, bit: i32| bytes.as_mut().filter(|_| set & bit != 0).map(|b| b.clear());
             cut(&mut f.sheet, 1);
             cut(&mut f.plan, 2);
             cut(&mut f.budget, 4);
@@ -232,7 +237,8 @@ fn cases() -> Vec<(String, Vec<Files>)> {
         ("the longest sheet and files around it".to_string(), around_largest),
         ("tables at their limits, empty modules".to_string(), tables),
     ];
-    let examples = examples::all().iter().map(|e| Files::of(sheet_bytes(&e.sheet), plan_bytes(&e.plan), e.budget)).collect();
+    let examples =
+        examples::all().iter().map(|e| Files::of(sheet_bytes(&e.sheet), plan_bytes(&e.plan), e.budget)).collect();
     list.push(("the examples".to_string(), examples));
     let mut any = vec![];
     for turn in 0..120 {

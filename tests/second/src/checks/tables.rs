@@ -18,7 +18,10 @@ fn alone(all: &[(u64, u64, u64)]) -> World {
     let sheet = Sheet {
         modules: vec![Module { cabinet: 0, memory: 0, most: 64 }],
         delays: vec![vec![0]],
-        partitions: all.iter().map(|(period, budget, _)| Partition { period: *period, budget: *budget, memory: 0 }).collect(),
+        partitions: all
+            .iter()
+            .map(|(period, budget, _)| Partition { period: *period, budget: *budget, memory: 0 })
+            .collect(),
         exclusions: vec![],
         chains: vec![],
     };
@@ -29,7 +32,7 @@ fn alone(all: &[(u64, u64, u64)]) -> World {
 fn edges(table: &Table, random: &mut Random) -> Vec<Position> {
     let frame = table.frame as u32;
     let count = table.slots.len() as u32;
-    let mut ticks = vec![0, 1, frame - 1, frame, frame.wrapping_add(1), u32::MAX, random.next() as u32];
+    let mut ticks = vec![0, 1, frame - 1, frame, frame.wrapping_add(1), u32::MAX, random.draw() as u32];
     let mut slots = vec![0, 1, count.wrapping_sub(1), count, count + 1, u32::MAX];
     ticks.push(random.below(table.frame) as u32);
     slots.push(random.below(count as u64 + 2) as u32);
@@ -92,7 +95,10 @@ fn damaged(compare: &mut Compare) -> Checked {
         for bit in 0..8 * bytes.len() {
             let flipped = with_flip(&bytes, bit);
             compare.table(&flipped)?;
-            let from = Position { tick: random.below(table.frame) as u32, slot: random.below(table.slots.len() as u64 + 1) as u32 };
+            let from = Position {
+                tick: random.below(table.frame) as u32,
+                slot: random.below(table.slots.len() as u64 + 1) as u32,
+            };
             compare.step(&flipped, Position::fresh())?;
             compare.step(&flipped, from)?;
         }
@@ -102,7 +108,7 @@ fn damaged(compare: &mut Compare) -> Checked {
         }
         for more in 1..=13 {
             let mut longer = bytes.clone();
-            longer.resize(bytes.len() + more, random.next() as u8);
+            longer.resize(bytes.len() + more, random.draw() as u8);
             compare.table(&longer)?;
             compare.step(&longer, Position::fresh())?;
         }
@@ -146,7 +152,9 @@ fn slot_counts(compare: &mut Compare) -> Checked {
         for frame in [3 * 2_047, 3 * 1_024, 3 * 1_023 + 2, 3 * 1_023 + 1, 16_777_215] {
             let bytes = table_bytes(&Table { frame, slots: slots.clone() });
             compare.table(&bytes)?;
-            for from in [(0, 0), (3_071, 1_023), (3_070, 1_023), (3_072, 1_024), (3_071, 1_024), (3_074, 1_024), (3_075, 1_025)] {
+            for from in
+                [(0, 0), (3_071, 1_023), (3_070, 1_023), (3_072, 1_024), (3_071, 1_024), (3_074, 1_024), (3_075, 1_025)]
+            {
                 compare.step(&bytes, Position { tick: from.0, slot: from.1 })?;
             }
         }

@@ -66,9 +66,10 @@ fn c5(sheet: &Sheet, plan: &[Placement]) -> Option<usize> {
 }
 
 fn c6(sheet: &Sheet, plan: &[Placement]) -> Option<usize> {
-    sheet.exclusions.iter().position(|e| {
-        e.second < plan.len() && !e.cabinet && plan[e.first].module == plan[e.second].module
-    })
+    sheet
+        .exclusions
+        .iter()
+        .position(|e| e.second < plan.len() && !e.cabinet && plan[e.first].module == plan[e.second].module)
 }
 
 fn c7(sheet: &Sheet, plan: &[Placement]) -> Option<usize> {

@@ -51,7 +51,7 @@ pub fn table_of(sheet: &Sheet, plan: &[Placement], module: usize) -> Result<Tabl
     let frame = least_common_multiple(&periods, LARGEST_FRAME).ok_or(FRAME)?;
     let begun = |i: usize| -> u64 {
         let run = run_of(sheet, plan, i);
-        (frame - run.start + run.period - 1) / run.period
+        (frame - run.start).div_ceil(run.period)
     };
     if held.iter().map(|i| begun(*i)).sum::<u64>() > MOST_SLOTS {
         return Err(SLOTS);
@@ -166,11 +166,7 @@ pub fn step(table: &[u8], position: &mut Position) -> Stepped {
             next = s + 1;
         }
     }
-    *position = if p + 1 == frame {
-        Position::fresh()
-    } else {
-        Position { tick: p as u32 + 1, slot: next as u32 }
-    };
+    *position = if p + 1 == frame { Position::fresh() } else { Position { tick: p as u32 + 1, slot: next as u32 } };
     Stepped { number: DONE, partition }
 }
 
