@@ -2,7 +2,7 @@
  * ghozrembu.h: plans of strictly periodic partitions, judged, searched, built into frame tables and dispatched.
  *
  * The library is target/staticlib/libghozrembu.a, written by `rt staticlib ghozrembu` from code that is proved
- * against its contracts. It links into C and Rust programs on x86-64 Linux, uses no heap and no C library call,
+ * against its contracts. It links into C and Rust programs on x86-64 Linux, uses no heap, reads and writes no file,
  * and keeps nothing between calls.
  *
  *     gcc -O2 -Iinclude my.c target/staticlib/libghozrembu.a -o my

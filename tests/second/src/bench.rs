@@ -163,7 +163,16 @@ fn table() -> (Vec<u8>, Vec<u8>) {
     (sheet_bytes(&sheet), plan_bytes(&plan))
 }
 
+/// The processor's name, as Linux has it.
+fn machine() -> String {
+    let all = std::fs::read_to_string("/proc/cpuinfo").unwrap_or_default();
+    let line = all.lines().find(|line| line.starts_with("model name"));
+    line.and_then(|line| line.split(':').nth(1))
+        .map_or("an unknown machine".to_string(), |name| name.trim().to_string())
+}
+
 pub fn run() -> ! {
+    println!("{}, one thread\n", machine());
     println!("| call | product | fast form | product / fast |");
     println!("|---|---|---|---|");
     let largest = largest_sheet();
