@@ -173,7 +173,7 @@ fn machine() -> String {
 
 pub fn run() -> ! {
     println!("{}, one thread\n", machine());
-    println!("| call | product | fast form | product / fast |");
+    println!("| call | product | fast form | time of product / time of fast form |");
     println!("|---|---|---|---|");
     let largest = largest_sheet();
     let bytes = sheet_bytes(&largest.sheet);
