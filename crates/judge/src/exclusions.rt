@@ -7,7 +7,7 @@ ghost use Rattle.model.specs.None.{noExclusion};
 ghost use Rattle.judge.specs.Places.{firstFail};
 ghost use Rattle.judge.specs.Constraints.{c6, c7};
 ghost use Rattle.judge.specs.Asked.{BothPlaced};
-ghost use Rattle.judge.specs.Verdict.{brokenAt, orNext};
+ghost use Rattle.judge.specs.Parts.{brokenExclusion};
 use crate::Answer;
 use crate::widths::index;
 use crate::widths::member;
@@ -101,7 +101,7 @@ pub fn broken_exclusion(
 ) -> Answer
     requires { ⌜ count ≤ mostExclusions ⌝ }
     requires { ⌜ ((x : ℕ) → x < count → BothPlaced (now modules) (getD exclusions x noExclusion)) ⌝ }
-    ensures { λ r. ⌜ r ≡ orNext (brokenAt 6 (firstFail (λ x. c6 (now (modules .entry)) (getD exclusions x noExclusion)) count) count) (brokenAt 7 (firstFail (λ x. c7 rooms (now (modules .entry)) (getD exclusions x noExclusion)) count) count) ⌝ }
+    ensures { λ r. ⌜ r ≡ brokenExclusion exclusions count rooms (now (modules .entry)) ⌝ }
 {
     let six = Answer::broken_at(6, shared_module(exclusions, count, modules), count);
     if six.number != 0 {

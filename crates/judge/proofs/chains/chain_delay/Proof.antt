@@ -38,6 +38,9 @@ second-on c =
     let e = c .index2 .ensures .0 ∙ ap (λ (i : ℕ). at (s .args .modules .now) i) (c .before .before .before .before .member2 .ensures .0) in
     omega (arith, s .pre .1 (c .before .before .before .before .before .before .before .loop .j + 1) (omega arith) .on)
 
+both-on : (c : tie.After-wide2 Inv-loop μ-loop) → (c .before .before .before .before .before .before .index .result < 16) × (c .before .before .before .before .index2 .result < 16)
+both-on c = (first-on (c .before .before .before .before .before .before), second-on (c .before .before .before .before))
+
 loop-holds : tie.Need-loop-holds Inv-loop μ-loop
 loop-holds c = (omega arith, omega arith, hops-start _ _ _ _ _ _)
 
@@ -99,16 +102,16 @@ add-total : tie.Need-add-total Inv-loop μ-loop
 add-total c = omega (arith, c .wide2 .ensures, c .before .before .wide .ensures)
 
 mul-ticks : tie.Need-mul-ticks Inv-loop μ-loop
-mul-ticks c = omega (arith, first-on (c .before .before .before .before .before .before))
+mul-ticks c = omega (arith, both-on c)
 
 mul-ticks-2 : tie.Need-mul-ticks-2 Inv-loop μ-loop
-mul-ticks-2 c = omega (arith, second-on (c .before .before .before .before))
+mul-ticks-2 c = omega (arith, both-on c)
 
 index-1-ticks : tie.Need-index-1-ticks Inv-loop μ-loop
-index-1-ticks c = first-on (c .before .before .before .before .before .before)
+index-1-ticks c = omega (arith, both-on c)
 
 index-2-ticks : tie.Need-index-2-ticks Inv-loop μ-loop
-index-2-ticks c = second-on (c .before .before .before .before)
+index-2-ticks c = omega (arith, both-on c)
 
 ticks-requires : tie.Need-ticks-requires Inv-loop μ-loop
 ticks-requires c κs = search needs
@@ -133,7 +136,7 @@ loop-again c =
       omega (arith, c .before .before .before .before .before .before .before .before .before .before .before .before .loop-test),
       omega (arith, c .ticks .ensures, c .before .before .wide2 .ensures, c .before .before .before .before .wide .ensures, l .inv),
       hops-turn _ _ _ _ _ _ (l .j) (l .total) (c .before .before .before .before .wide .result + c .before .before .wide2 .result + c .ticks .result)
-          (c .before .before .before .before .before .before .before .before .before .before .before .before .loop-test .taken)
+          (omega (arith, c .before .before .before .before .before .before .before .before .before .before .before .before .loop-test))
           (rw (c .before .before .before .before .wide .ensures .0, c .before .before .wide2 .ensures .0, c .ticks .ensures .0, c .before .before .before .before .before .before .before .before .index .ensures .0, c .before .before .before .before .before .before .index2 .ensures .0, c .before .before .before .before .before .before .before .before .before .before .before .member .ensures .0, c .before .before .before .before .before .before .before .before .before .before .member2 .ensures .0))
           (l .inv .2),
     )
