@@ -1,7 +1,7 @@
 /*
  * A module at work: loads its frame table and dispatches, tick by tick.
  *
- *     gcc -O2 -Wall -Wextra -Werror -Iinclude examples/module.c target/staticlib/libghozrembu.a -o target/module
+ *     gcc -O2 -Wall -Wextra -Werror -Iinclude examples/module.c target/lib/libghozrembu.a -o target/module
  *     target/module TABLE [TICKS]
  *
  * TABLE is a file that the builder program wrote (`./ghozrembu build DIR PREFIX` writes PREFIX00.bin for module 0 and

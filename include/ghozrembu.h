@@ -1,11 +1,11 @@
 /*
  * ghozrembu.h: plans of strictly periodic partitions, judged, searched, built into frame tables and dispatched.
  *
- * The library is target/staticlib/libghozrembu.a, written by `rt staticlib ghozrembu` from code that is proved
+ * The library is target/lib/libghozrembu.a, written by `./ghozrembu library` from code that is proved
  * against its contracts. It links into C and Rust programs on x86-64 Linux, uses no heap, reads and writes no file,
  * and keeps nothing between calls.
  *
- *     gcc -O2 -Iinclude my.c target/staticlib/libghozrembu.a -o my
+ *     gcc -O2 -Iinclude my.c target/lib/libghozrembu.a -o my
  *
  * Bytes go in as a pointer and a length. Every call takes every content and every length and answers with a number;
  * none of them asks anything of the values. What C has to see to itself:

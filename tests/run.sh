@@ -37,8 +37,8 @@ for tool in rt cargo gcc; do
     command -v "$tool" >/dev/null || fail "$tool is missing: put it on PATH"
 done
 stage "the second program on the worked cases of document 01" references
-echo "tests: the library (rt staticlib ghozrembu)"
-rt staticlib ghozrembu || fail "the library is not proved"
+echo "tests: the library (./ghozrembu library)"
+./ghozrembu library || fail "the library is not proved"
 cargo build --release --offline --quiet --manifest-path tests/second/Cargo.toml || fail "cargo build failed"
 stage "the library compared with the second program" tests/second/target/release/second
 stage "programs, command and C example on files" tests/programs.sh
