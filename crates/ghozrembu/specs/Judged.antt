@@ -2,6 +2,8 @@
 -- Assumes nothing.
 use mathlib.Core.List.{List}
 use Prim.Native.Nat.{ℕ}
+use mathlib.Core.Path.{_≡_}
+use Rattle.numbers.specs.First.{met}
 use Rattle.model.specs.Columns.{periodsOf, budgetsOf}
 use Rattle.model.specs.declared.records.Plan.{Plan}
 use Rattle.model.specs.declared.records.Sheet.{Sheet}
@@ -10,6 +12,7 @@ use Rattle.reader.specs.Number.{sheetNumber}
 use Rattle.reader.specs.Plan.{planNumber, planOf}
 use Rattle.judge.specs.Verdict.{refused, orNext, verdict}
 use Rattle.judge.specs.declared.Answer.{Answer}
+use Rattle.ghozrembu.specs.declared.values.Values.{Values}
 
 -- how many partitions the sheet has
 abbrev pub partitionsIn : List ℕ → ℕ
@@ -27,3 +30,10 @@ judgedBytes sheet plan =
     orNext (refused (sheetNumber sheet))
     (orNext (refused (planNumber plan (partitionsIn sheet)))
     (verdictOf sheet plan))
+
+-- what reading both gives: the first number met, and the values where none is
+pub record ReadBoth (sheet plan : List ℕ) (v : Values) (delays : List (List ℕ)) : Type 0 where
+  pub number : v .number ≡ met (sheetNumber sheet) (planNumber plan (partitionsIn sheet))
+  pub sheet-is : v .number ≡ 0 → v .sheet ≡ sheetOf sheet
+  pub plan-is : v .number ≡ 0 → v .plan ≡ planOf plan (partitionsIn sheet)
+  pub delays-are : v .number ≡ 0 → delays ≡ delaysOf sheet

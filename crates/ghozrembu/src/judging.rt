@@ -2,6 +2,7 @@
 ghost use mathlib.Core.Path.{_≡_};
 ghost use Rattle.reader.specs.Number.{sheetNumber};
 ghost use Rattle.ghozrembu.specs.Judged.{judgedBytes};
+use crate::values::read_both;
 use judge::Answer;
 use model::records::Sheet;
 
@@ -17,15 +18,9 @@ pub fn judge(sheet: &[u8], plan: &[u8]) -> Answer
     ensures { λ r. ⌜ r ≡ judgedBytes (now (sheet .entry)) (now (plan .entry)) ⌝ }
 {
     let mut delays = [[0u16; Sheet::MODULES]; Sheet::MODULES];
-    let s = reader::read(sheet, &mut delays);
-    if s.number != 0 {
-        return Answer::refused(s.number);
+    let v = read_both(sheet, plan, &mut delays);
+    if v.number != 0 {
+        return Answer::refused(v.number);
     }
-    let values = s.sheet;
-    let head = values.head;
-    let p = reader::plan::read_plan(plan, head.partitions);
-    if p.number != 0 {
-        return Answer::refused(p.number);
-    }
-    judge::judge(values, delays, p.plan)
+    judge::judge(v.sheet, delays, v.plan)
 }

@@ -3,6 +3,7 @@
 mod c;
 mod judging;
 mod looks;
+mod values;
 
 pub use judging::judge;
 pub use judging::sheet_number;
