@@ -1,0 +1,4 @@
+-- The laws of the builder.
+pub mod Turns
+pub mod Written
+pub mod Returned
