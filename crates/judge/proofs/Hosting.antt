@@ -1,17 +1,17 @@
 -- The modules' sets: how a loop over the partitions builds them, and that C4 and C5 may be asked of them.
 -- Assumes nothing.
 use mathlib.Core.Path.{_≡_, refl, ap, _∙_, sym, subst}
-use mathlib.Core.Bool.{Bool, cond}
+use mathlib.Core.Bool.{true, false, cond}
 use mathlib.Core.List.{List}
 use Prim.Native.Nat.{ℕ, zero, suc, _+_, _≤_, _<_}
 use native.Mathlib.Omega.{arith}
 use native.Mathlib.Decide.{ℕ-discrete}
+use borrow.Author.Tests.{eq-eqb, ne-eqb, le-leb, lt-leb}
 use lib.Dec.{leb}
 use lib.ListN.{length, getD, set, replicate, length-set}
 use lib.Seq.{ext-getD, getD-set-same, getD-set-other}
-use borrow.Author.Tests.{eq-eqb, ne-eqb}
 use Rattle.lists.specs.Filled.{filled, length-filled, getD-filled}
-use Rattle.sets.specs.Members.{places, setOf, sizeOf, sumOver, sumBelow, countBelow, withMember}
+use Rattle.sets.specs.Members.{setOf, sizeOf, sumOver, sumBelow, countBelow, withMember}
 use Rattle.sets.proofs.Laws.{set-with, set-skips, sum-of-set, size-of-set}
 use Rattle.model.specs.Limits.{mostModules, mostPartitions}
 use Rattle.model.specs.declared.records.Module.{Module}
@@ -64,6 +64,24 @@ sets-more ms i m x {sets} e on h g =
         ∙ sym (set-skips (isOn ms j) i (ne-eqb (at ms i) j (λ z. q (sym (on ∙ z))))) ∙ sym (set-at ms (i + 1) j l)
 
 -- ---- C4 and C5 by the sets
+module _ (modules : List Module) (memories sets : List ℕ) (m : ℕ) where
+  pub memory-passes : sumOver (at memories) (getD sets m 0) ≤ moduleAt modules m .memory → memoryKept modules memories sets m ≡ true
+  unfolding memoryKept
+  memory-passes h = le-leb _ _ h
+
+  pub memory-fails : moduleAt modules m .memory < sumOver (at memories) (getD sets m 0) → memoryKept modules memories sets m ≡ false
+  unfolding memoryKept
+  memory-fails h = lt-leb _ _ h
+
+module _ (modules : List Module) (sets : List ℕ) (m : ℕ) where
+  pub most-passes : sizeOf (getD sets m 0) ≤ moduleAt modules m .most → mostKept modules sets m ≡ true
+  unfolding mostKept
+  most-passes h = le-leb _ _ h
+
+  pub most-fails : moduleAt modules m .most < sizeOf (getD sets m 0) → mostKept modules sets m ≡ false
+  unfolding mostKept
+  most-fails h = lt-leb _ _ h
+
 module _ (modules : List Module) (ms : List ℕ) (n m : ℕ) (few : n ≤ mostPartitions) (h : m < mostModules) where
   memory-kept-is : (memories : List ℕ) → memoryKept modules memories (setsOn ms n) m ≡ c4 modules memories ms n m
   unfolding memoryKept c4

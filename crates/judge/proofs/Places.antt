@@ -1,28 +1,22 @@
 -- The laws of the first failing place: what it means, and the turns of a loop that looks for it.
 -- Assumes nothing.
 use mathlib.Core.Path.{_≡_, refl, ap, _∙_, sym}
-use mathlib.Core.Bool.{Bool, true, false}
+use mathlib.Core.Bool.{Bool, true, false, not}
 use mathlib.Core.Logic.{_↔_}
 use Prim.Native.Nat.{ℕ, zero, suc, _+_, _-_, _<_, _≤_}
 use native.Mathlib.Omega.{arith}
 use native.Mathlib.Nat.{sub-zero}
 use native.Mathlib.Numerals.{add-one}
 use native.Mathlib.Decide.{ℕ-discrete}
+use borrow.Author.Tests.{eq-eqb, ne-eqb, eqb-true, not-true, not-false}
 use lib.Arith.{lt-of-le-ne}
 use lib.Dec.{eqb}
-use borrow.Author.Tests.{eq-eqb, ne-eqb, eqb-true}
 use Rattle.judge.specs.Places.{failsFrom, firstFail, passesFrom, passes}
 
 -- a test passes or fails
 pub by-answer {ℓ} : (b : Bool) {A : Type ℓ} → (b ≡ true → A) → (b ≡ false → A) → A
 by-answer true t f = t refl
 by-answer false t f = f refl
-
-pub not-both : (b : Bool) → b ≡ true → b ≡ false → ⊥
-not-both b t f = let z : true ≡ false = sym t ∙ f in absurd (cc-false z)
-  where
-    cc-false : true ≡ false → ⊥
-    cc-false z = let e : _≡_ {A = ℕ} 0 1 = cc in omega arith
 
 module _ (f : ℕ → Bool) where
   -- ---- one place
@@ -44,6 +38,14 @@ module _ (f : ℕ → Bool) where
   fails-pass n i h e inv =
       let k : n - i ≡ suc (n - suc i) = omega arith in
       rw add-one (sym (from-pass (n - suc i) i e) ∙ sym (ap (λ (j : ℕ). failsFrom f j i) k) ∙ inv)
+
+  -- the same where the code asks `if !r` of a callee's answer r
+  pub fails-hit-by : (n i : ℕ) {r : Bool} {w : ℕ} → i < n → r ≡ f i → not r ≡ true → failsFrom f (n - i) i ≡ w → i ≡ w
+  fails-hit-by n i h e t inv = fails-hit n i h (sym e ∙ not-true _ t) inv
+
+  pub fails-pass-by : (n i : ℕ) {r : Bool} {w : ℕ} → i < n → r ≡ f i → not r ≡ false → failsFrom f (n - i) i ≡ w
+      → failsFrom f (n - (i + 1)) (i + 1) ≡ w
+  fails-pass-by n i h e t inv = fails-pass n i h (sym e ∙ not-false _ t) inv
 
   pub fails-end : (n i : ℕ) {w : ℕ} → n ≤ i → failsFrom f (n - i) i ≡ w → i ≡ w
   unfolding failsFrom
@@ -81,10 +83,10 @@ module _ (f : ℕ → Bool) where
   passes-before (suc k) i j h g =
       by-answer (f i)
       (λ e.
-        elim (ℕ-discrete i j) [
-          yes q ↦ rw q at e
+      elim (ℕ-discrete i j) [
+        | yes q ↦ rw q at e
         | no q ↦ passes-before k (suc i) j (lt-of-le-ne h q) (rw (from-pass k i e) at g)
-        ])
+      ])
       (λ e. absurd (let w = rw (from-hit k i e) at g in omega arith))
 
   pub fails-none : (k i : ℕ) → ((j : ℕ) → i ≤ j → j < i + k → f j ≡ true) → failsFrom f k i ≡ i + k
@@ -124,8 +126,8 @@ module _ (f : ℕ → Bool) where
   passes-is (suc k) i =
       by-answer (f i)
       (λ e.
-        let s : suc i + k ≡ i + suc k = omega arith in
-        passes-here k i e ∙ passes-is k (suc i) ∙ rw (s, from-pass k i e))
+      let s : suc i + k ≡ i + suc k = omega arith in
+      passes-here k i e ∙ passes-is k (suc i) ∙ rw (s, from-pass k i e))
       (λ e. passes-not k i e ∙ sym (ne-eqb (failsFrom f (suc k) i) (i + suc k) (let h = from-hit k i e in omega arith)))
 
   module _ (n : ℕ) where
