@@ -2,3 +2,4 @@
 pub mod Turns
 pub mod Written
 pub mod Returned
+pub mod Hosted

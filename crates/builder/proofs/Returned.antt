@@ -7,13 +7,16 @@ use Prim.Native.Nat.{ℕ, zero, suc, _/_, _≤_, _<_}
 use native.Mathlib.Omega.{arith}
 use lib.Dec.{ltb}
 use lib.ListN.{length, drop}
-use borrow.Author.Tests.{lt-ltb, le-ltb}
-use Rattle.numbers.specs.Numbers.{fine, frameTooLarge, tooManySlots, bufferTooShort}
+use borrow.Author.Tests.{lt-ltb, le-ltb, lt-leb, le-leb}
+use Rattle.numbers.specs.Numbers.{fine, noSuchModule, frameTooLarge, tooManySlots, bufferTooShort}
 use Rattle.numbers.specs.First.{broken, met-stop, met-go, met-none}
 use Rattle.table.specs.Layout.{mostFrame, mostSlots, tableBytes}
 use Rattle.frames.specs.Frame.{Part, All, Fine, total, frame, slotsOf}
 use Rattle.frames.proofs.Length.{slots-length}
-use Rattle.builder.specs.Built.{sizeOf, roomNumber, refused, returned, left}
+use Rattle.model.specs.declared.records.Sheet.{Sheet}
+use Rattle.model.specs.declared.records.Plan.{Plan}
+use Rattle.judge.specs.Verdict.{judged}
+use Rattle.builder.specs.Built.{partsOn, sizeOf, roomNumber, builtNumber, refused, returned, left}
 
 -- refused with a number that is not 0
 module _ (k : ℕ) {m : ℕ} (ps : List Part) (e : k ≡ m) (n : k ≡ 0 → ⊥) where
@@ -79,3 +82,22 @@ module _ (ps : List Part) (n : ℕ) where
 -- the count of slots that the code has
 pub count-is : (ps : List Part) → All Fine ps → {f r : ℕ} → f ≡ frame ps → r ≡ total (λ (p : Part). f / p .period) ps → r ≡ length (slotsOf ps)
 count-is ps fine e g = g ∙ ap (λ (F : ℕ). total (λ (p : Part). F / p .period) ps) e ∙ sym (slots-length ps fine)
+
+-- the builder's number: the judge's, then 20, then those of the room
+module _ (s : Sheet) (delays : List (List ℕ)) (p : Plan) (m n : ℕ) where
+  pub number-judged : {k : ℕ} → k ≡ judged s delays p .number → (k ≡ 0 → ⊥) → k ≡ builtNumber s delays p m n
+  unfolding builtNumber
+  number-judged {k} e ne = met-stop k _ _ e ne
+
+  module _ (z : judged s delays p .number ≡ 0) where
+    pub number-module : s .head .modules ≤ m → noSuchModule ≡ builtNumber s delays p m n
+    unfolding builtNumber
+    number-module h =
+        met-go 0 _ _ noSuchModule (sym z) refl
+        (met-stop noSuchModule _ _ (sym (ap (λ (t : Bool). broken t noSuchModule) (le-leb _ _ h))) (λ e. omega arith))
+
+    pub number-room : m < s .head .modules → roomNumber (partsOn s p m) n ≡ builtNumber s delays p m n
+    unfolding builtNumber
+    number-room h =
+        met-go 0 _ _ _ (sym z) refl
+        (met-go 0 _ _ _ (sym (ap (λ (t : Bool). broken t noSuchModule) (lt-leb _ _ h))) refl refl)
