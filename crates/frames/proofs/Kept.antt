@@ -61,6 +61,10 @@ module _ (on : ℕ → Bool) (part : ℕ → Part) where
       go false d (inl x) rec = absurd (false≢true (sym d ∙ ap on x ∙ e))
       go false d (inr x) rec = rec x
 
+  -- what holds of each on the module holds of all of them
+  pub kept-all : (P : Part → Type 0) (N : ℕ) → ((j : ℕ) → j < N → on j ≡ true → P (part j)) → All P (kept on part N)
+  kept-all P N h = from-all P N 0 (λ j l u e. h j (omega arith) e)
+
   pub kept-in : (N j : ℕ) → j < N → on j ≡ true → In (part j) (kept on part N)
   kept-in N j l e = from-in N 0 j (omega arith) (omega arith) e
 

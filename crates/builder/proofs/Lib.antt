@@ -1,0 +1,5 @@
+-- The laws of the builder.
+pub mod Turns
+pub mod Written
+pub mod Returned
+pub mod Hosted
