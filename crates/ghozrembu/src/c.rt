@@ -3,6 +3,8 @@ ghost use mathlib.Core.Path.{_≡_};
 ghost use Rattle.reader.specs.Number.{sheetNumber};
 ghost use Rattle.table.specs.Sound.{tableNumber};
 ghost use Rattle.ghozrembu.specs.Judged.{judgedBytes};
+ghost use Rattle.ghozrembu.specs.BuiltBytes.{builtBytes, bufferBuilt};
+use builder::Built;
 use judge::Answer;
 
 #[no_mangle]
@@ -24,4 +26,12 @@ pub extern "C" fn ghozrembu_table_number(table: &[u8]) -> u8
     ensures { λ r. ⌜ r ≡ tableNumber (now (table .entry)) ⌝ }
 {
     table::sound::table_number(table)
+}
+
+#[no_mangle]
+pub extern "C" fn ghozrembu_build(sheet: &[u8], plan: &[u8], m: usize, buffer: &mut [u8]) -> Built
+    ensures { λ r. ⌜ (r ≡ builtBytes (now (sheet .entry)) (now (plan .entry)) m (now (buffer .entry)))
+        × (now (buffer .exit) ≡ bufferBuilt (now (sheet .entry)) (now (plan .entry)) m (now (buffer .entry))) ⌝ }
+{
+    crate::building::build(sheet, plan, m, buffer)
 }
