@@ -1,6 +1,7 @@
 // The records of a sheet and a plan, as the tables of document 01 read, each with its limits and the widths of its fields beside it.
 // Delays stand beside the sheet, sixteen rows of sixteen.
 ghost use mathlib.Core.Path.{_≡_};
+ghost use mathlib.Core.List.{[], _∷_};
 ghost use Rattle.model.specs.Limits.{sheetVersion, leastModules, mostModules, leastPartitions, mostPartitions, mostExclusions, mostChains, leastMembers, mostMembers, longestSheet, longestPlan};
 ghost use Rattle.model.specs.Widths.{versionBits, modulesBits, partitionsBits, exclusionsBits, chainsBits, spareBits, headBits, cabinetBits, memoryBits, mostBits, moduleBits, delayBits, periodBits, budgetBits, partitionBits, partitionNumberBits, kindBits, exclusionBits, limitBits, lengthBits, leadBits, moduleNumberBits, startBits, placementBits};
 ghost use Rattle.model.specs.None.{noSheet, noPlan};
@@ -207,45 +208,53 @@ impl Plan {
 }
 
 // Each limit is the one that specs/ name.
-fn limits_agree()
-    ensures { λ _. do ⌜ (← ⟦Head::VERSION⟧ .entry) ≡ sheetVersion ⌝ }
-    ensures { λ _. do ⌜ (← ⟦Sheet::FEWEST_MODULES⟧ .entry) ≡ leastModules ⌝ }
-    ensures { λ _. do ⌜ (← ⟦Sheet::MODULES⟧ .entry) ≡ mostModules ⌝ }
-    ensures { λ _. do ⌜ (← ⟦Sheet::FEWEST_PARTITIONS⟧ .entry) ≡ leastPartitions ⌝ }
-    ensures { λ _. do ⌜ (← ⟦Sheet::PARTITIONS⟧ .entry) ≡ mostPartitions ⌝ }
-    ensures { λ _. do ⌜ (← ⟦Sheet::EXCLUSIONS⟧ .entry) ≡ mostExclusions ⌝ }
-    ensures { λ _. do ⌜ (← ⟦Sheet::CHAINS⟧ .entry) ≡ mostChains ⌝ }
-    ensures { λ _. do ⌜ (← ⟦Chain::FEWEST⟧ .entry) ≡ leastMembers ⌝ }
-    ensures { λ _. do ⌜ (← ⟦Chain::MEMBERS⟧ .entry) ≡ mostMembers ⌝ }
-    ensures { λ _. do ⌜ (← ⟦Sheet::BYTES⟧ .entry) ≡ longestSheet ⌝ }
-    ensures { λ _. do ⌜ (← ⟦Plan::BYTES⟧ .entry) ≡ longestPlan ⌝ }
-{}
+fn limits_agree() -> [usize; 11]
+    ensures { λ r. ⌜ r ≡ sheetVersion ∷ leastModules ∷ mostModules ∷ leastPartitions ∷ mostPartitions ∷ mostExclusions ∷ mostChains ∷ leastMembers ∷ mostMembers ∷ longestSheet ∷ longestPlan ∷ [] ⌝ }
+{
+    [
+        Head::VERSION as usize,
+        Sheet::FEWEST_MODULES,
+        Sheet::MODULES,
+        Sheet::FEWEST_PARTITIONS,
+        Sheet::PARTITIONS,
+        Sheet::EXCLUSIONS,
+        Sheet::CHAINS,
+        Chain::FEWEST as usize,
+        Chain::MEMBERS,
+        Sheet::BYTES,
+        Plan::BYTES,
+    ]
+}
 
 // Each width is the one that specs/ name.
-fn widths_agree()
-    ensures { λ _. do ⌜ (← ⟦Head::VERSION_BITS⟧ .entry) ≡ versionBits ⌝ }
-    ensures { λ _. do ⌜ (← ⟦Head::MODULES_BITS⟧ .entry) ≡ modulesBits ⌝ }
-    ensures { λ _. do ⌜ (← ⟦Head::PARTITIONS_BITS⟧ .entry) ≡ partitionsBits ⌝ }
-    ensures { λ _. do ⌜ (← ⟦Head::EXCLUSIONS_BITS⟧ .entry) ≡ exclusionsBits ⌝ }
-    ensures { λ _. do ⌜ (← ⟦Head::CHAINS_BITS⟧ .entry) ≡ chainsBits ⌝ }
-    ensures { λ _. do ⌜ (← ⟦Head::SPARE_BITS⟧ .entry) ≡ spareBits ⌝ }
-    ensures { λ _. do ⌜ (← ⟦Head::BITS⟧ .entry) ≡ headBits ⌝ }
-    ensures { λ _. do ⌜ (← ⟦Module::CABINET_BITS⟧ .entry) ≡ cabinetBits ⌝ }
-    ensures { λ _. do ⌜ (← ⟦Module::MEMORY_BITS⟧ .entry) ≡ memoryBits ⌝ }
-    ensures { λ _. do ⌜ (← ⟦Module::MOST_BITS⟧ .entry) ≡ mostBits ⌝ }
-    ensures { λ _. do ⌜ (← ⟦Module::BITS⟧ .entry) ≡ moduleBits ⌝ }
-    ensures { λ _. do ⌜ (← ⟦Sheet::DELAY_BITS⟧ .entry) ≡ delayBits ⌝ }
-    ensures { λ _. do ⌜ (← ⟦Partition::PERIOD_BITS⟧ .entry) ≡ periodBits ⌝ }
-    ensures { λ _. do ⌜ (← ⟦Partition::BUDGET_BITS⟧ .entry) ≡ budgetBits ⌝ }
-    ensures { λ _. do ⌜ (← ⟦Partition::MEMORY_BITS⟧ .entry) ≡ memoryBits ⌝ }
-    ensures { λ _. do ⌜ (← ⟦Partition::BITS⟧ .entry) ≡ partitionBits ⌝ }
-    ensures { λ _. do ⌜ (← ⟦Partition::NUMBER_BITS⟧ .entry) ≡ partitionNumberBits ⌝ }
-    ensures { λ _. do ⌜ (← ⟦Exclusion::KIND_BITS⟧ .entry) ≡ kindBits ⌝ }
-    ensures { λ _. do ⌜ (← ⟦Exclusion::BITS⟧ .entry) ≡ exclusionBits ⌝ }
-    ensures { λ _. do ⌜ (← ⟦Chain::LIMIT_BITS⟧ .entry) ≡ limitBits ⌝ }
-    ensures { λ _. do ⌜ (← ⟦Chain::LENGTH_BITS⟧ .entry) ≡ lengthBits ⌝ }
-    ensures { λ _. do ⌜ (← ⟦Chain::LEAD_BITS⟧ .entry) ≡ leadBits ⌝ }
-    ensures { λ _. do ⌜ (← ⟦Plan::MODULE_BITS⟧ .entry) ≡ moduleNumberBits ⌝ }
-    ensures { λ _. do ⌜ (← ⟦Plan::START_BITS⟧ .entry) ≡ startBits ⌝ }
-    ensures { λ _. do ⌜ (← ⟦Plan::BITS⟧ .entry) ≡ placementBits ⌝ }
-{}
+fn widths_agree() -> [usize; 25]
+    ensures { λ r. ⌜ r ≡ versionBits ∷ modulesBits ∷ partitionsBits ∷ exclusionsBits ∷ chainsBits ∷ spareBits ∷ headBits ∷ cabinetBits ∷ memoryBits ∷ mostBits ∷ moduleBits ∷ delayBits ∷ periodBits ∷ budgetBits ∷ memoryBits ∷ partitionBits ∷ partitionNumberBits ∷ kindBits ∷ exclusionBits ∷ limitBits ∷ lengthBits ∷ leadBits ∷ moduleNumberBits ∷ startBits ∷ placementBits ∷ [] ⌝ }
+{
+    [
+        Head::VERSION_BITS,
+        Head::MODULES_BITS,
+        Head::PARTITIONS_BITS,
+        Head::EXCLUSIONS_BITS,
+        Head::CHAINS_BITS,
+        Head::SPARE_BITS,
+        Head::BITS,
+        Module::CABINET_BITS,
+        Module::MEMORY_BITS,
+        Module::MOST_BITS,
+        Module::BITS,
+        Sheet::DELAY_BITS,
+        Partition::PERIOD_BITS,
+        Partition::BUDGET_BITS,
+        Partition::MEMORY_BITS,
+        Partition::BITS,
+        Partition::NUMBER_BITS,
+        Exclusion::KIND_BITS,
+        Exclusion::BITS,
+        Chain::LIMIT_BITS,
+        Chain::LENGTH_BITS,
+        Chain::LEAD_BITS,
+        Plan::MODULE_BITS,
+        Plan::START_BITS,
+        Plan::BITS,
+    ]
+}

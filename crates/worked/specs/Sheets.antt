@@ -13,7 +13,7 @@ use Rattle.model.specs.None.{noModule, noPartition, noExclusion, noChain, noPla
 use Rattle.model.specs.Rules.{versionTests, versionRule, countTests, countRule, headRule, diagonalRule, partitionTests, partitionRule, exclusionTests, exclusionRule, lengthTests, lengthRule, memberTests, memberRule, membersRule}
 use Rattle.layout.specs.Layout.{chainAt}
 use Rattle.layout.specs.Values.{sheetOf, delaysOf}
-use Rattle.reader.specs.Number.{short, headNumber, recordRule, recordNumber, partNumber, partsNumber, leadNumber, membersNumber, chainNumber, chainsNumber, endNumber, bodyNumber, sheetNumber, sheetRead}
+use Rattle.reader.specs.Number.{short, headNumber, recordRule, recordNumber, partNumber, partsNumber, leadNumber, membersNumber, chainNumber, chainsNumber, endNumber, bodyNumber, sheetNumber}
 use Rattle.reader.specs.Plan.{planNumber, planOf, planRead, withPlacement, withPlacements, planBytes}
 
 -- Sheet A, in hex: 10 82 00 00 00 00 C8 08 00 00 00 10 00 04 00 02 80 01 80 00 40 00 28

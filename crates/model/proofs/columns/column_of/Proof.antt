@@ -1,12 +1,13 @@
+-- `model::columns::column_of` meets its contract. The loop's invariant: the array is filled up to i. Assumes nothing.
 use mathlib.Core.Path.{_≡_, sym}
 use Prim.Native.Nat.{ℕ, _≤_, _-_}
+use native.Mathlib.Omega.{arith}
+use borrow.Author.Needs.{needs}
 use lib.ListN.{getD}
 use Rattle.lists.specs.Filled.{filled, filled-none, filled-more}
 use Rattle.model.specs.Limits.{mostPartitions}
 use Rattle.model.specs.None.{noPartition}
 use Rattle.model.specs.Columns.{valueOf, columnOf}
-use borrow.Author.Needs.{needs}
-use native.Mathlib.Omega.{arith}
 use Rattle.model.proofs.columns.column_of.Statement.{statement}
 use Rattle.model.proofs.columns.column_of.Tie as tie
 

@@ -1,16 +1,17 @@
-use mathlib.Core.Path.{_≡_, _∙_}
-use Prim.Native.Nat.{ℕ, _≤_, _-_}
-use Rattle.numbers.specs.First.{firstMet, first-start, first-hit, first-pass, first-end}
+-- `model::decoded::chains_number` meets its contract. The loop's invariant: what is left to meet is what the whole meets. Assumes nothing.
+use Prim.Native.Nat.{ℕ, _-_}
+use native.Mathlib.Omega.{arith}
+use borrow.Author.Needs.{needs}
 use lib.ListN.{getD}
+use Rattle.numbers.proofs.Passed.{Passed}
+use Rattle.numbers.specs.First.{first-start, first-hit, first-pass, first-end}
 use Rattle.model.specs.Decoded.{decodedChain, decodedChains}
 use Rattle.model.specs.None.{emptyChain}
-use borrow.Author.Needs.{needs}
-use native.Mathlib.Omega.{arith}
 use Rattle.model.proofs.decoded.chains_number.Statement.{statement}
 use Rattle.model.proofs.decoded.chains_number.Tie as tie
 
 abbrev Inv-loop : tie.InvT-loop
-Inv-loop k n chains i₀ i = (i ≤ k) × (firstMet (λ (j : ℕ). decodedChain n (getD chains j emptyChain)) (k - i) i ≡ firstMet (λ (j : ℕ). decodedChain n (getD chains j emptyChain)) k 0)
+Inv-loop k n chains i₀ i = Passed (λ (j : ℕ). decodedChain n (getD chains j emptyChain)) k i
 
 abbrev μ-loop : tie.MeasureT-loop
 μ-loop k n chains i₀ i = k - i

@@ -1,16 +1,17 @@
-use mathlib.Core.Path.{_≡_, _∙_}
-use Prim.Native.Nat.{ℕ, _≤_, _-_}
-use Rattle.numbers.specs.First.{firstMet, first-start, first-hit, first-pass, first-end}
+-- `model::decoded::exclusions_number` meets its contract. The loop's invariant: what is left to meet is what the whole meets. Assumes nothing.
+use Prim.Native.Nat.{ℕ, _-_}
+use native.Mathlib.Omega.{arith}
+use borrow.Author.Needs.{needs}
 use lib.ListN.{getD}
+use Rattle.numbers.proofs.Passed.{Passed}
+use Rattle.numbers.specs.First.{first-start, first-hit, first-pass, first-end}
 use Rattle.model.specs.Decoded.{decodedExclusion, decodedExclusions}
 use Rattle.model.specs.None.{noExclusion}
-use borrow.Author.Needs.{needs}
-use native.Mathlib.Omega.{arith}
 use Rattle.model.proofs.decoded.exclusions_number.Statement.{statement}
 use Rattle.model.proofs.decoded.exclusions_number.Tie as tie
 
 abbrev Inv-loop : tie.InvT-loop
-Inv-loop k n exclusions i₀ i = (i ≤ k) × (firstMet (λ (j : ℕ). decodedExclusion n (getD exclusions j noExclusion)) (k - i) i ≡ firstMet (λ (j : ℕ). decodedExclusion n (getD exclusions j noExclusion)) k 0)
+Inv-loop k n exclusions i₀ i = Passed (λ (j : ℕ). decodedExclusion n (getD exclusions j noExclusion)) k i
 
 abbrev μ-loop : tie.MeasureT-loop
 μ-loop k n exclusions i₀ i = k - i

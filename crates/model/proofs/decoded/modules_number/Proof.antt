@@ -1,16 +1,17 @@
-use mathlib.Core.Path.{_≡_, _∙_}
-use Prim.Native.Nat.{ℕ, _≤_, _-_}
-use Rattle.numbers.specs.First.{firstMet, first-start, first-hit, first-pass, first-end}
+-- `model::decoded::modules_number` meets its contract. The loop's invariant: what is left to meet is what the whole meets. Assumes nothing.
+use Prim.Native.Nat.{ℕ, _-_}
+use native.Mathlib.Omega.{arith}
+use borrow.Author.Needs.{needs}
 use lib.ListN.{getD}
+use Rattle.numbers.proofs.Passed.{Passed}
+use Rattle.numbers.specs.First.{first-start, first-hit, first-pass, first-end}
 use Rattle.model.specs.Decoded.{moduleLarge, decodedModules}
 use Rattle.model.specs.None.{noModule}
-use borrow.Author.Needs.{needs}
-use native.Mathlib.Omega.{arith}
 use Rattle.model.proofs.decoded.modules_number.Statement.{statement}
 use Rattle.model.proofs.decoded.modules_number.Tie as tie
 
 abbrev Inv-loop : tie.InvT-loop
-Inv-loop n modules i₀ i = (i ≤ n) × (firstMet (λ (k : ℕ). moduleLarge (getD modules k noModule)) (n - i) i ≡ firstMet (λ (k : ℕ). moduleLarge (getD modules k noModule)) n 0)
+Inv-loop n modules i₀ i = Passed (λ (k : ℕ). moduleLarge (getD modules k noModule)) n i
 
 abbrev μ-loop : tie.MeasureT-loop
 μ-loop n modules i₀ i = n - i

@@ -1,16 +1,17 @@
-use mathlib.Core.Path.{_≡_, _∙_}
-use Prim.Native.Nat.{ℕ, _≤_, _-_}
-use Rattle.numbers.specs.First.{firstMet, first-start, first-hit, first-pass, first-end}
+-- `model::decoded::partitions_number` meets its contract. The loop's invariant: what is left to meet is what the whole meets. Assumes nothing.
+use Prim.Native.Nat.{ℕ, _-_}
+use native.Mathlib.Omega.{arith}
+use borrow.Author.Needs.{needs}
 use lib.ListN.{getD}
+use Rattle.numbers.proofs.Passed.{Passed}
+use Rattle.numbers.specs.First.{first-start, first-hit, first-pass, first-end}
 use Rattle.model.specs.Decoded.{decodedPartition, decodedPartitions}
 use Rattle.model.specs.None.{noPartition}
-use borrow.Author.Needs.{needs}
-use native.Mathlib.Omega.{arith}
 use Rattle.model.proofs.decoded.partitions_number.Statement.{statement}
 use Rattle.model.proofs.decoded.partitions_number.Tie as tie
 
 abbrev Inv-loop : tie.InvT-loop
-Inv-loop n partitions i₀ i = (i ≤ n) × (firstMet (λ (k : ℕ). decodedPartition (getD partitions k noPartition)) (n - i) i ≡ firstMet (λ (k : ℕ). decodedPartition (getD partitions k noPartition)) n 0)
+Inv-loop n partitions i₀ i = Passed (λ (k : ℕ). decodedPartition (getD partitions k noPartition)) n i
 
 abbrev μ-loop : tie.MeasureT-loop
 μ-loop n partitions i₀ i = n - i

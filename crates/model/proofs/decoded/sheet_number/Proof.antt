@@ -1,7 +1,8 @@
+-- `model::decoded::sheet_number` meets its contract. Assumes nothing.
+use borrow.Author.Needs.{needs}
 use Rattle.numbers.specs.First.{met-stop, met-go}
 use Rattle.model.specs.Decoded.{decodedNumber}
 use Rattle.model.proofs.Fairness.{passed-inside}
-use borrow.Author.Needs.{needs}
 use Rattle.model.proofs.decoded.sheet_number.Statement.{statement}
 use Rattle.model.proofs.decoded.sheet_number.Tie as tie
 

@@ -1,10 +1,11 @@
+-- `model::fields::large` meets its contract. Assumes nothing.
 use mathlib.Core.Path.{ap, _∙_}
 use mathlib.Core.Bool.{Bool}
+use borrow.Author.Needs.{needs}
 use Rattle.numbers.specs.Numbers.{tooLarge}
 use Rattle.numbers.specs.First.{broken}
 use Rattle.model.specs.Decoded.{large}
 use Rattle.model.proofs.Laws.{shifted}
-use borrow.Author.Needs.{needs}
 use Rattle.model.proofs.fields.large.Statement.{statement}
 use Rattle.model.proofs.fields.large.Tie as tie
 

@@ -1,6 +1,7 @@
+-- `model::rules::count_rule` meets its contract. Assumes nothing.
+use borrow.Author.Needs.{needs}
 use Rattle.numbers.specs.First.{firstOf}
 use Rattle.model.specs.Rules.{countRule, countTests}
-use borrow.Author.Needs.{needs}
 use Rattle.model.proofs.rules.count_rule.Statement.{statement}
 use Rattle.model.proofs.rules.count_rule.Tie as tie
 

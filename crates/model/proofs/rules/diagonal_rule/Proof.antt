@@ -1,5 +1,6 @@
-use Rattle.model.specs.Rules.{diagonalRule}
+-- `model::rules::diagonal_rule` meets its contract. Assumes nothing.
 use borrow.Author.Needs.{needs}
+use Rattle.model.specs.Rules.{diagonalRule}
 use Rattle.model.proofs.rules.diagonal_rule.Statement.{statement}
 use Rattle.model.proofs.rules.diagonal_rule.Tie as tie
 

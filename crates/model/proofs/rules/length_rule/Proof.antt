@@ -1,6 +1,7 @@
+-- `model::rules::length_rule` meets its contract. Assumes nothing.
+use borrow.Author.Needs.{needs}
 use Rattle.numbers.specs.First.{firstOf}
 use Rattle.model.specs.Rules.{lengthRule, lengthTests}
-use borrow.Author.Needs.{needs}
 use Rattle.model.proofs.rules.length_rule.Statement.{statement}
 use Rattle.model.proofs.rules.length_rule.Tie as tie
 

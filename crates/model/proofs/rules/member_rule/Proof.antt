@@ -1,5 +1,6 @@
-use Rattle.model.proofs.Laws.{member-first, member-later}
+-- `model::rules::member_rule` meets its contract. Assumes nothing.
 use borrow.Author.Needs.{needs}
+use Rattle.model.proofs.Laws.{member-first, member-later}
 use Rattle.model.proofs.rules.member_rule.Statement.{statement}
 use Rattle.model.proofs.rules.member_rule.Tie as tie
 

@@ -1,6 +1,7 @@
+-- `model::rules::version_rule` meets its contract. Assumes nothing.
+use borrow.Author.Needs.{needs}
 use Rattle.numbers.specs.First.{firstOf}
 use Rattle.model.specs.Rules.{versionRule, versionTests}
-use borrow.Author.Needs.{needs}
 use Rattle.model.proofs.rules.version_rule.Statement.{statement}
 use Rattle.model.proofs.rules.version_rule.Tie as tie
 

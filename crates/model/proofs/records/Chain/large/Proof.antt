@@ -1,5 +1,6 @@
-use Rattle.model.specs.Decoded.{leadLarge}
+-- `model::records::Chain::large` meets its contract. Assumes nothing.
 use borrow.Author.Needs.{needs}
+use Rattle.model.specs.Decoded.{leadLarge}
 use Rattle.model.proofs.records.Chain.large.Statement.{statement}
 use Rattle.model.proofs.records.Chain.large.Tie as tie
 
@@ -9,8 +10,8 @@ word-requires c κs = search needs
 large-requires : tie.Need-large-requires
 large-requires c κs = search needs
 
-byte-requires : tie.Need-byte-requires
-byte-requires c κs = search needs
+wide-requires : tie.Need-wide-requires
+wide-requires c κs = search needs
 
 large-requires-2 : tie.Need-large-requires-2
 large-requires-2 c κs = search needs
@@ -25,4 +26,4 @@ returns c = cc
 pub large-spec : {M : Type 1} → statement M
 large-spec =
     tie.close
-    (tie.spec word-requires large-requires byte-requires large-requires-2 or-next-requires returns)
+    (tie.spec word-requires large-requires wide-requires large-requires-2 or-next-requires returns)

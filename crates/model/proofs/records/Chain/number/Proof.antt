@@ -1,8 +1,9 @@
+-- `model::records::Chain::number` meets its contract. Assumes nothing.
 use mathlib.Core.Path.{sym, _∙_}
+use borrow.Author.Needs.{needs}
 use Rattle.numbers.specs.First.{met-stop, met-go, met-there}
 use Rattle.model.specs.Decoded.{decodedChain}
 use Rattle.model.proofs.Fairness.{length-most}
-use borrow.Author.Needs.{needs}
 use Rattle.model.proofs.records.Chain.number.Statement.{statement}
 use Rattle.model.proofs.records.Chain.number.Tie as tie
 

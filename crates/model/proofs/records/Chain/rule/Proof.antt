@@ -1,14 +1,15 @@
-use mathlib.Core.Path.{_≡_, _∙_}
-use Prim.Native.Nat.{ℕ, _≤_, _-_}
-use Rattle.numbers.specs.First.{firstMet, first-start, first-hit, first-pass, first-end}
-use Rattle.model.specs.Rules.{memberRule, membersRule}
-use borrow.Author.Needs.{needs}
+-- `model::records::Chain::rule` meets its contract. The loop's invariant: what is left to meet is what the whole meets. Assumes nothing.
+use Prim.Native.Nat.{_-_}
 use native.Mathlib.Omega.{arith}
+use borrow.Author.Needs.{needs}
+use Rattle.numbers.proofs.Passed.{Passed}
+use Rattle.numbers.specs.First.{first-start, first-hit, first-pass, first-end}
+use Rattle.model.specs.Rules.{memberRule, membersRule}
 use Rattle.model.proofs.records.Chain.rule.Statement.{statement}
 use Rattle.model.proofs.records.Chain.rule.Tie as tie
 
 abbrev Inv-loop : tie.InvT-loop
-Inv-loop n count members j₀ j = (j ≤ count) × (firstMet (memberRule n members) (count - j) j ≡ firstMet (memberRule n members) count 0)
+Inv-loop n count members j₀ j = Passed (memberRule n members) count j
 
 abbrev μ-loop : tie.MeasureT-loop
 μ-loop n count members j₀ j = count - j

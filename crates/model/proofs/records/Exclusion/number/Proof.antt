@@ -1,5 +1,6 @@
-use Rattle.model.specs.Decoded.{decodedExclusion}
+-- `model::records::Exclusion::number` meets its contract. Assumes nothing.
 use borrow.Author.Needs.{needs}
+use Rattle.model.specs.Decoded.{decodedExclusion}
 use Rattle.model.proofs.records.Exclusion.number.Statement.{statement}
 use Rattle.model.proofs.records.Exclusion.number.Tie as tie
 

@@ -1,6 +1,7 @@
+-- `model::records::Exclusion::rule` meets its contract. Assumes nothing.
+use borrow.Author.Needs.{needs}
 use Rattle.numbers.specs.First.{firstOf}
 use Rattle.model.specs.Rules.{exclusionRule, exclusionTests}
-use borrow.Author.Needs.{needs}
 use Rattle.model.proofs.records.Exclusion.rule.Statement.{statement}
 use Rattle.model.proofs.records.Exclusion.rule.Tie as tie
 

@@ -1,10 +1,11 @@
-use Rattle.model.specs.Decoded.{headLarge}
+-- `model::records::Head::large` meets its contract. Assumes nothing.
 use borrow.Author.Needs.{needs}
+use Rattle.model.specs.Decoded.{headLarge}
 use Rattle.model.proofs.records.Head.large.Statement.{statement}
 use Rattle.model.proofs.records.Head.large.Tie as tie
 
-byte-requires : tie.Need-byte-requires
-byte-requires c κs = search needs
+wide-requires : tie.Need-wide-requires
+wide-requires c κs = search needs
 
 large-requires : tie.Need-large-requires
 large-requires c κs = search needs
@@ -21,8 +22,8 @@ large-requires-4 c κs = search needs
 large-requires-5 : tie.Need-large-requires-5
 large-requires-5 c κs = search needs
 
-byte-requires-2 : tie.Need-byte-requires-2
-byte-requires-2 c κs = search needs
+wide-requires-2 : tie.Need-wide-requires-2
+wide-requires-2 c κs = search needs
 
 large-requires-6 : tie.Need-large-requires-6
 large-requires-6 c κs = search needs
@@ -50,13 +51,13 @@ pub large-spec : {M : Type 1} → statement M
 large-spec =
     tie.close
     (tie.spec
-    byte-requires
+    wide-requires
     large-requires
     large-requires-2
     large-requires-3
     large-requires-4
     large-requires-5
-    byte-requires-2
+    wide-requires-2
     large-requires-6
     or-next-requires
     or-next-requires-2

@@ -1,5 +1,6 @@
-use Rattle.model.specs.Decoded.{decodedHead}
+-- `model::records::Head::number` meets its contract. Assumes nothing.
 use borrow.Author.Needs.{needs}
+use Rattle.model.specs.Decoded.{decodedHead}
 use Rattle.model.proofs.records.Head.number.Statement.{statement}
 use Rattle.model.proofs.records.Head.number.Tie as tie
 

@@ -1,5 +1,6 @@
-use Rattle.model.specs.Rules.{headRule}
+-- `model::records::Head::rule` meets its contract. Assumes nothing.
 use borrow.Author.Needs.{needs}
+use Rattle.model.specs.Rules.{headRule}
 use Rattle.model.proofs.records.Head.rule.Statement.{statement}
 use Rattle.model.proofs.records.Head.rule.Tie as tie
 

@@ -1,5 +1,6 @@
-use Rattle.model.specs.Decoded.{partitionLarge}
+-- `model::records::Partition::large` meets its contract. Assumes nothing.
 use borrow.Author.Needs.{needs}
+use Rattle.model.specs.Decoded.{partitionLarge}
 use Rattle.model.proofs.records.Partition.large.Statement.{statement}
 use Rattle.model.proofs.records.Partition.large.Tie as tie
 

@@ -1,5 +1,6 @@
-use Rattle.model.specs.Decoded.{decodedPartition}
+-- `model::records::Partition::number` meets its contract. Assumes nothing.
 use borrow.Author.Needs.{needs}
+use Rattle.model.specs.Decoded.{decodedPartition}
 use Rattle.model.proofs.records.Partition.number.Statement.{statement}
 use Rattle.model.proofs.records.Partition.number.Tie as tie
 

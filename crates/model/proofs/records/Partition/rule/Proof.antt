@@ -1,6 +1,7 @@
+-- `model::records::Partition::rule` meets its contract. Assumes nothing.
+use borrow.Author.Needs.{needs}
 use Rattle.numbers.specs.First.{firstOf}
 use Rattle.model.specs.Rules.{partitionRule, partitionTests}
-use borrow.Author.Needs.{needs}
 use Rattle.model.proofs.records.Partition.rule.Statement.{statement}
 use Rattle.model.proofs.records.Partition.rule.Tie as tie
 
