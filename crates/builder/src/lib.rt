@@ -23,7 +23,13 @@ pub struct Built {
 }
 
 // The table of one module of a plan: the judge's number first, then 20, 21, 22 and 23.
-pub fn build(s: Sheet, d: [[u16; Sheet::MODULES]; Sheet::MODULES], p: Plan, m: usize, buffer: &mut [u8]) -> Built
+pub fn build(
+    s: Sheet,
+    d: [[u16; Sheet::MODULES]; Sheet::MODULES],
+    p: Plan,
+    m: usize,
+    buffer: &mut [u8],
+) -> Built
     ensures { λ r. ⌜ (r ≡ builtOf s d p m (now (buffer .entry))) × (now (buffer .exit) ≡ bufferOf s d p m (now (buffer .entry))) ⌝ }
 {
     let a = judge(s, d, p);
