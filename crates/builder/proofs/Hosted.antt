@@ -1,22 +1,22 @@
 -- What an accepted plan says of the partitions on one module: they are a module in the sense of the frame.
 -- Assumes nothing.
-use mathlib.Core.Path.{_≡_, refl, ap, sym, _∙_, subst}
-use mathlib.Core.Bool.{Bool, true, false, false≢true}
+use mathlib.Core.Path.{_≡_, ap, sym, _∙_, subst}
+use mathlib.Core.Bool.{false≢true}
 use mathlib.Core.List.{List}
-use Prim.Native.Nat.{ℕ, _+_, _≤_, _<_, _^_}
+use Prim.Native.Nat.{ℕ, _≤_, _<_, _^_}
 use native.Mathlib.Decide.{ℕ-discrete, decLt}
 use native.Mathlib.Omega.{arith}
 use lib.ListN.{getD}
 use borrow.Author.Tests.{eqb-true}
 use Rattle.numbers.specs.First.{none-met}
-use Rattle.sets.specs.Members.{places, member, setOf, kept}
-use Rattle.sets.proofs.Laws.{no-member-past, member-of-set, members-of-set}
+use Rattle.sets.specs.Members.{setOf}
+use Rattle.sets.proofs.Laws.{no-member-past, members-of-set}
 use Rattle.model.specs.Limits.{mostModules, mostPartitions}
 use Rattle.model.specs.Widths.{startBits}
 use Rattle.model.specs.None.{noPartition}
 use Rattle.model.specs.Fair.{Fair}
-use Rattle.model.specs.Decoded.{decodedNumber, startsNumber, large}
-use Rattle.model.specs.Columns.{columnOf, periodsOf, budgetsOf}
+use Rattle.model.specs.Decoded.{startsNumber, large}
+use Rattle.model.specs.Columns.{periodsOf, budgetsOf}
 use Rattle.model.specs.declared.records.Sheet.{Sheet}
 use Rattle.model.specs.declared.records.Plan.{Plan}
 use Rattle.model.specs.declared.columns.Column.the-variants.{Period, Budget}
@@ -26,7 +26,7 @@ use Rattle.judge.specs.declared.Answer.{Answer}
 use Rattle.judge.specs.Constraints.{at, isOn}
 use Rattle.judge.specs.Verdict.{Accepted, judged}
 use Rattle.judge.proofs.Theorems.{sheet-refused, start-refused, judged-accepts-exactly}
-use Rattle.frames.specs.Frame.{Part, Fine, Clear, Module}
+use Rattle.frames.specs.Frame.{Fine, Module}
 use Rattle.frames.proofs.Kept.{kept-module}
 use Rattle.builder.specs.Parts.{partAt, partsOf}
 use Rattle.builder.specs.Asked.{Timed}

@@ -3,3 +3,4 @@ pub mod Turns
 pub mod Written
 pub mod Returned
 pub mod Hosted
+pub mod Theorems

@@ -1,3 +1,4 @@
 pub mod Parts
 pub mod Asked
 pub mod Built
+pub mod Demand

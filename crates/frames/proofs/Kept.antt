@@ -2,13 +2,17 @@
 -- Assumes nothing.
 use mathlib.Core.Path.{_≡_, refl, ap, sym, _∙_, subst}
 use mathlib.Core.Bool.{Bool, true, false, cond, false≢true}
-use mathlib.Core.List.{_∷_}
+use mathlib.Core.List.{List, _∷_}
 use Prim.Native.Nat.{ℕ, zero, suc, _+_, _≤_, _<_}
 use native.Mathlib.Nat.{eq-or-lt-of-le}
 use mathlib.Core.Logic.{_⊎_, inl, inr}
 use native.Mathlib.Omega.{arith}
 use Rattle.sets.specs.Members.{keptFrom, kept}
 use Rattle.frames.specs.Frame.{Part, In, here, there, All, Pairs, Fine, Before, Clear, Module}
+
+first-or-later : {q p : Part} {ps : List Part} → In q (p ∷ ps) → (q ≡ p) ⊎ In q ps
+first-or-later here = inl refl
+first-or-later (there i) = inr i
 
 module _ (on : ℕ → Bool) (part : ℕ → Part) where
   pub kept-yes : (i k : ℕ) → on i ≡ true → keptFrom on part i (suc k) ≡ part i ∷ keptFrom on part (suc i) k
@@ -67,6 +71,30 @@ module _ (on : ℕ → Bool) (part : ℕ → Part) where
 
   pub kept-in : (N j : ℕ) → j < N → on j ≡ true → In (part j) (kept on part N)
   kept-in N j l e = from-in N 0 j (omega arith) (omega arith) e
+
+  -- and a partition of the list is one on the module
+  pub record Of (N : ℕ) (q : Part) : Type 0 where
+    pub number : ℕ
+    pub below : number < N
+    pub hosted : on number ≡ true
+    pub is : q ≡ part number
+
+  out-of : (N k i : ℕ) {q : Part} → i + k ≡ N → In q (keptFrom on part i k) → Of N q
+  unfolding keptFrom
+  out-of N zero i e j = elim j [ ]
+  out-of N (suc k) i {q} e j = go (on i) refl j (λ (h : In q (keptFrom on part (suc i) k)). out-of N k (suc i) (omega arith) h)
+    where
+      first : on i ≡ true → (q ≡ part i) ⊎ In q (keptFrom on part (suc i) k) → (In q (keptFrom on part (suc i) k) → Of N q) → Of N q
+      first d (inl h) rec = record { number = i; below = omega arith; hosted = d; is = h }
+      first d (inr h) rec = rec h
+
+      go : (b : Bool) → on i ≡ b → In q (cond b (part i ∷ keptFrom on part (suc i) k) (keptFrom on part (suc i) k))
+          → (In q (keptFrom on part (suc i) k) → Of N q) → Of N q
+      go true d h rec = first d (first-or-later h) rec
+      go false d h rec = rec h
+
+  pub kept-of : (N : ℕ) {q : Part} → In q (kept on part N) → Of N q
+  kept-of N j = out-of N N 0 (omega arith) j
 
   -- what the judge says of the partitions on one module: C3 of each and C2 of each two
   pub kept-module : (N : ℕ)

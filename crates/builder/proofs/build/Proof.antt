@@ -1,8 +1,8 @@
 -- `builder::build` meets its contract: the judge, 20, and then the table of the set of the module's partitions.
 -- Assumes nothing.
-use mathlib.Core.Path.{_≡_, refl, ap, sym, _∙_}
+use mathlib.Core.Path.{_≡_, ap, sym, _∙_}
 use mathlib.Core.List.{List}
-use Prim.Native.Nat.{ℕ, _+_, _-_, _*_, _/_, _≤_, _<_, _^_}
+use Prim.Native.Nat.{ℕ, _<_}
 use native.Mathlib.Omega.{arith}
 use lib.ListN.{length, getD}
 use Rattle.numbers.specs.Numbers.{noSuchModule}
@@ -13,28 +13,17 @@ use Rattle.sets.specs.Members.{setOf}
 use Rattle.judge.specs.Constraints.{isOn}
 use Rattle.builder.specs.Built.{partsOn, roomNumber, returned, left}
 use Rattle.builder.proofs.Returned.{returned-refused, left-refused, number-judged, number-module, number-room}
-use Rattle.builder.proofs.Hosted.{Good, good, on-a-module, found-parts, found-timed, found-hosted}
+use Rattle.builder.proofs.Hosted.{good, on-a-module, found-parts, found-timed, found-hosted}
 use borrow.Author.Needs.{needs}
 use Rattle.builder.proofs.build.Statement.{statement}
 use Rattle.builder.proofs.build.Tie as tie
-use Rattle.builder.proofs.build.Reads as reads
-use Rattle.builder.proofs.build.Lts as lts
-use Rattle.builder.proofs.room.build_set.Reads as build-set-reads
-use Rattle.builder.proofs.room.refused.Reads as refused-reads
-use Rattle.judge.proofs.judge.Reads as judge-reads
-use Rattle.judge.proofs.rooms.hosted.Reads as hosted-reads
-use Rattle.model.proofs.columns.budgets.Reads as budgets-reads
-use Rattle.model.proofs.columns.periods.Reads as periods-reads
 
--- src/lib.rt:29:9
 judge-requires : tie.Need-judge-requires
 judge-requires c κs = search needs
 
--- src/lib.rt:31:9
 refused-requires : tie.Need-refused-requires
 refused-requires c κs = search needs
 
--- src/lib.rt:31:9
 returns : tie.Need-returns
 returns c = let a = c .before .before .before .before .before .args in
     let d = a .buffer .now in
@@ -43,11 +32,9 @@ returns c = let a = c .before .before .before .before .before .args in
     let e = number-judged (a .s) (a .d) (a .p) (a .m) (length d) (ap (λ (x : Answer). x .number) (c .before .before .before .judge .ensures)) (c .before .if1 .taken) in
     (c .refused .ensures ∙ returned-refused k ps e (c .before .if1 .taken), left-refused k ps e (c .before .if1 .taken) d)
 
--- src/lib.rt:35:9
 refused-requires-2 : tie.Need-refused-requires-2
 refused-requires-2 c κs = search needs
 
--- src/lib.rt:35:9
 returns-2 : tie.Need-returns-2
 returns-2 c = let a = c .before .before .before .before .before .before .before .before .args in
     let d = a .buffer .now in
@@ -55,20 +42,16 @@ returns-2 c = let a = c .before .before .before .before .before .before .before 
     let e = number-module (a .s) (a .d) (a .p) (a .m) (length d) (ap (λ (a : Answer). a .number) (sym (c .before .before .before .before .before .before .judge .ensures)) ∙ c .before .before .before .before .if1 .left) (c .before .if2 .taken) in
     (c .refused2 .ensures ∙ returned-refused noSuchModule ps e (λ z. omega arith), left-refused noSuchModule ps e (λ z. omega arith) d)
 
--- src/lib.rt:37:19
 periods-requires : tie.Need-periods-requires
 periods-requires c κs = (good (c .before .before .before .before .before .before .before .args .s) (c .before .before .before .before .before .before .before .args .d) (c .before .before .before .before .before .before .before .args .p) (ap (λ (a : Answer). a .number) (sym (c .before .before .before .before .before .judge .ensures)) ∙ c .before .before .before .if1 .left)) .fair .head .inside .partitions
 
--- src/lib.rt:38:19
 budgets-requires : tie.Need-budgets-requires
 budgets-requires c κs = (good (c .before .before .before .before .before .before .before .before .args .s) (c .before .before .before .before .before .before .before .before .args .d) (c .before .before .before .before .before .before .before .before .args .p) (ap (λ (a : Answer). a .number) (sym (c .before .before .before .before .before .before .judge .ensures)) ∙ c .before .before .before .before .if1 .left)) .fair .head .inside .partitions
 
--- src/lib.rt:41:16
 hosted-requires : tie.Need-hosted-requires
 hosted-requires c κs = let g = good (c .before .before .before .before .before .before .before .before .before .before .before .before .args .s) (c .before .before .before .before .before .before .before .before .before .before .before .before .args .d) (c .before .before .before .before .before .before .before .before .before .before .before .before .args .p) (ap (λ (a : Answer). a .number) (sym (c .before .before .before .before .before .before .before .before .before .before .judge .ensures)) ∙ c .before .before .before .before .before .before .before .before .if1 .left) in
     (g .fair .head .inside .partitions, on-a-module (c .before .before .before .before .before .before .before .before .before .before .before .before .args .s) (c .before .before .before .before .before .before .before .before .before .before .before .before .args .d) (c .before .before .before .before .before .before .before .before .before .before .before .before .args .p) g)
 
--- src/lib.rt:42:15
 -- the module is one of the sixteen
 index : (c : tie.After-hosted) → c .before .before .before .before .before .before .before .before .before .before .before .before .before .args .m < 16
 index c = omega (arith, c .before .before .before .before .before .before .if2 .left, (good (c .before .before .before .before .before .before .before .before .before .before .before .before .before .args .s) (c .before .before .before .before .before .before .before .before .before .before .before .before .before .args .d) (c .before .before .before .before .before .before .before .before .before .before .before .before .before .args .p) (ap (λ (a : Answer). a .number) (sym (c .before .before .before .before .before .before .before .before .before .before .before .judge .ensures)) ∙ c .before .before .before .before .before .before .before .before .before .if1 .left)) .fair .head .inside .modules)
@@ -83,22 +66,18 @@ the-set c =
 mul-build-set : tie.Need-mul-build-set
 mul-build-set c = omega (arith, index c)
 
--- src/lib.rt:42:15
 array-read-build-set : tie.Need-array-read-build-set
 array-read-build-set c = index c
 
--- src/lib.rt:42:5
 build-set-requires : tie.Need-build-set-requires
 build-set-requires c κs = let a = c .before .before .before .before .before .before .before .before .before .before .before .before .before .before .before .before .before .args in
     let g = good (c .before .before .before .before .before .before .before .before .before .before .before .before .before .before .before .before .before .args .s) (c .before .before .before .before .before .before .before .before .before .before .before .before .before .before .before .before .before .args .d) (c .before .before .before .before .before .before .before .before .before .before .before .before .before .before .before .before .before .args .p) (ap (λ (a : Answer). a .number) (sym (c .before .before .before .before .before .before .before .before .before .before .before .before .before .before .before .judge .ensures)) ∙ c .before .before .before .before .before .before .before .before .before .before .before .before .before .if1 .left) in
     let e = the-set (c .before .before .before .before) in
     (found-timed (a .s) (a .d) (a .p) g (a .m) (c .before .before .before .before .before .before .before .before .before .periods .ensures) (c .before .before .before .before .before .before .before .before .budgets .ensures) e, found-hosted (a .s) (a .d) (a .p) g (a .m) (c .before .before .before .before .before .before .before .before .before .periods .ensures) (c .before .before .before .before .before .before .before .before .budgets .ensures) e)
 
--- src/lib.rt:26:1
 same-length : tie.Need-same-length
 same-length c = search needs
 
--- src/lib.rt:26:1
 returns-3 : tie.Need-returns-3
 returns-3 c = let a = c .before .before .before .before .before .before .before .before .before .before .before .before .before .before .before .before .before .before .before .before .args in
     let d = a .buffer .now in
