@@ -10,6 +10,6 @@ use Rattle.numbers.specs.Numbers.{fine, bufferTooShort, noPlan, stopped}
 use Rattle.model.specs.Decoded.{decodedNumber}
 use Rattle.model.specs.declared.records.Sheet.{Sheet}
 use Rattle.reader.specs.Plan.{planLength, planBytes}
-use Rattle.tries.specs.Tries.{answer} as tries
+use Rattle.tries.specs.Tries.{answer}
 use Rattle.search.specs.Sound.{choices, sound, modulesIn, startsIn}
 use Rattle.search.specs.declared.Found.{Found}

@@ -8,6 +8,7 @@ use lib.Dec.{leb, ltb}
 use borrow.Author.Tests.{lt-ltb, le-ltb}
 use Rattle.tries.specs.Tries.{Answer, found, absent, stopped, Hereditary, answer}
 use Rattle.tries.specs.Dfs.{thence, run, deeper, attempt, dfs}
+use Rattle.tries.specs.Placements.{upward, grid}
 use Rattle.tries.proofs.Laws.{dfs-answers}
 
 -- where the search stands: the outcome so far and the memory that holds the plan
@@ -16,16 +17,6 @@ pub record State (M : Type 0) : Type 0 where
   pub stopped? : Bool
   pub made : ℕ
   pub mem : M
-
--- i, i + 1, .., n of them
-unfoldable pub upward : ℕ → ℕ → List ℕ
-upward zero i = []
-upward (suc n) i = i ∷ upward n (i + 1)
-
--- (i, 0), (i, 1), .., (i + 1, 0), ..: n rows of w
-unfoldable pub grid : ℕ → ℕ → ℕ → List (ℕ × ℕ)
-grid w zero i = []
-grid w (suc n) i = map {B = ℕ × ℕ} (λ t. (i, t)) (upward w 0) ++ grid w n (i + 1)
 
 module _ {M : Type 0} where
   abbrev pub fresh : ℕ → M → State M

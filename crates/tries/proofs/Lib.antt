@@ -1,5 +1,5 @@
+pub mod Placements
 pub mod Words
-pub mod Splits
 pub mod Laws
 pub mod Meaning
 pub mod Bridge

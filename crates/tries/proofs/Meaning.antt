@@ -11,7 +11,8 @@ use lib.Dec.{leb, eqb}
 use borrow.Author.Tests.{leb-true, leb-false, eqb-true, le-leb, lt-leb, eq-eqb}
 use Rattle.tries.specs.Tries.{found, absent, stopped, starting, wordsFrom, keep, firstOf, upTo, ending, answerOf, words, isTry, tries, accepted, first, needed, answer, Hereditary}
 use Rattle.tries.proofs.Laws.{try-append, front, upTo-some}
-use Rattle.tries.proofs.Words.{Over, Precedes, InOrder, words-only, words-all, words-ordered}
+use Rattle.tries.specs.Order.{Over, Precedes, InOrder}
+use Rattle.tries.proofs.Words.{words-only, words-all, words-ordered}
 
 module _ {A : Type 0} where
   -- what is kept: what passes, in the order that it had
