@@ -87,21 +87,21 @@ module _ {A M : Type 0} where
     pub down : (j : ℕ) (m m′ : M) → read (j + 1) m ≡ read (j + 1) m′ → read j m ≡ read j m′
 
   -- what is asked of the code's test: after sound placements it says whether the plan with one more is sound
-  pub record Judges (n : ℕ) (choices : ℕ → List A) (read : ℕ → M → List A) (Fits : M → Type 0) (judge : M → ℕ → A → Bool) (sound : List A → Bool) : Type 0 where
-    pub same : (j : ℕ) (a : A) (m : M) → j < n → List·Memᴰ a (choices j) → Fits m → sound (read j m) ≡ true → judge m j a ≡ sound (read j m ++ (a ∷ []))
+  pub record Judges (n : ℕ) (choices : ℕ → List A) (put : ℕ → A → M → M) (read : ℕ → M → List A) (Fits : M → Type 0) (judge : M → ℕ → Bool) (sound : List A → Bool) : Type 0 where
+    pub same : (j : ℕ) (a : A) (m : M) → j < n → List·Memᴰ a (choices j) → Fits m → sound (read j m) ≡ true → judge (put j a m) j ≡ sound (read (j + 1) (put j a m))
 
   module _ (n : ℕ) (put : ℕ → A → M → M) where
     -- one try of the placement a for partition j; `judge` is the code's test, `next` the search over what is left
-    unfoldable pub attemptS : (M → ℕ → A → Bool) → ℕ → (State M → State M) → ℕ → A → State M → State M
+    unfoldable pub attemptS : (M → ℕ → Bool) → ℕ → (State M → State M) → ℕ → A → State M → State M
     attemptS judge budget next j a o =
         cond (leb budget (o .made)) (record { found? = false; stopped? = true; made = o .made; mem = o .mem })
-        (cond (judge (o .mem) j a)
+        (cond (judge (put j a (o .mem)) j)
         (cond (ltb (j + 1) n) (next (fresh (o .made + 1) (put j a (o .mem))))
         (record { found? = true; stopped? = false; made = o .made + 1; mem = put j a (o .mem) }))
-        (fresh (o .made + 1) (o .mem)))
+        (fresh (o .made + 1) (put j a (o .mem))))
 
     -- the search from partition j on, with r partitions left
-    unfoldable pub searchS : (ℕ → List A) → (M → ℕ → A → Bool) → ℕ → ℕ → ℕ → State M → State M
+    unfoldable pub searchS : (ℕ → List A) → (M → ℕ → Bool) → ℕ → ℕ → ℕ → State M → State M
     searchS choices judge budget zero j o = o
     searchS choices judge budget (suc r) j o = runS (attemptS judge budget (searchS choices judge budget r (j + 1)) j) (choices j) o
 
@@ -139,9 +139,9 @@ module _ {A M : Type 0} where
                 rw last (subst (λ y. Shows j w (runS f cs y) (run g cs (o .made))) (sym (still o p q)) u)
 
     -- one try in memory is one try of `dfs`
-    attemptS-shows : (judge : M → ℕ → A → Bool) (sound : List A → Bool) (b r j : ℕ) (nextS : State M → State M) (next : List A → ℕ → Answer A) → j + suc r ≡ n
+    attemptS-shows : (judge : M → ℕ → Bool) (sound : List A → Bool) (b r j : ℕ) (nextS : State M → State M) (next : List A → ℕ → Answer A) → j + suc r ≡ n
         → ((v : List A) (k : ℕ) (m : M) → Fits m → read (j + 1) m ≡ v → sound v ≡ true → Shows (j + 1) v (nextS (fresh k m)) (next v k))
-        → (w : List A) (a : A) (k : ℕ) (m : M) → Fits m → read j m ≡ w → judge m j a ≡ sound (w ++ (a ∷ []))
+        → (w : List A) (a : A) (k : ℕ) (m : M) → Fits m → read j m ≡ w → judge (put j a m) j ≡ sound (w ++ (a ∷ []))
         → Shows j w (attemptS n put judge b nextS j a (fresh k m)) (attempt sound b (deeper r next) w a k)
     unfolding attemptS attempt view deeper
     attemptS-shows judge sound b r j nextS next o below w a k m i e law = rw law (go (leb b k) (sound (w ++ (a ∷ []))) refl)
@@ -161,13 +161,13 @@ module _ {A M : Type 0} where
         deep (suc r) o t = rw (lt-ltb (j + 1) n (omega arith)) (record { shown = t .shown; fits = t .fits; kept = c .down j _ _ (t .kept ∙ sym reads) ∙ (c .same j a m (omega arith) i ∙ e) })
 
         go : (p q : Bool) → sound (w ++ (a ∷ [])) ≡ q → Shows j w
-            (cond p (record { found? = false; stopped? = true; made = k; mem = m }) (cond q (cond (ltb (j + 1) n) (nextS (fresh (k + 1) (put j a m))) (record { found? = true; stopped? = false; made = k + 1; mem = put j a m })) (fresh (k + 1) m)))
+            (cond p (record { found? = false; stopped? = true; made = k; mem = m }) (cond q (cond (ltb (j + 1) n) (nextS (fresh (k + 1) (put j a m))) (record { found? = true; stopped? = false; made = k + 1; mem = put j a m })) (fresh (k + 1) (put j a m))))
             (cond p (stopped k) (cond q (deeper r next (w ++ (a ∷ [])) (k + 1)) (absent (k + 1))))
         go true q s = record { shown = refl; fits = i; kept = e }
         go false true s = deep r o (below v (k + 1) (put j a m) fit reads s)
-        go false false s = record { shown = refl; fits = i; kept = e }
+        go false false s = record { shown = refl; fits = fit; kept = c .same j a m (omega arith) i ∙ e }
 
-    module _ (choices : ℕ → List A) (judge : M → ℕ → A → Bool) (sound : List A → Bool) (law : Judges n choices read Fits judge sound) (b : ℕ) where
+    module _ (choices : ℕ → List A) (judge : M → ℕ → Bool) (sound : List A → Bool) (law : Judges n choices put read Fits judge sound) (b : ℕ) where
       -- the search in memory stands for `dfs`, from any partition on, and leaves the placements before it alone
       pub searchS-shows : (r j : ℕ) → j + r ≡ n → (w : List A) → sound w ≡ true → (k : ℕ) (m : M) → Fits m → read j m ≡ w
           → Shows j w (searchS n put choices judge b r j (fresh k m)) (dfs choices sound b r j w k)
@@ -178,7 +178,7 @@ module _ {A M : Type 0} where
           (choices j)
           (λ a q k m i e. attemptS-shows judge sound b r j (searchS n put choices judge b r (j + 1)) (dfs choices sound b r (j + 1)) o
           (λ v k m i e t. searchS-shows r (j + 1) (omega arith) v t k m i e) w a k m i e
-          (law .same j a m (omega arith) q i (rw e s) ∙ ap (λ u. sound (u ++ (a ∷ []))) e))
+          (law .same j a m (omega arith) q i (rw e s) ∙ ap sound (c .next j a m (omega arith) i ∙ ap (λ u. u ++ (a ∷ [])) e)))
           k m i e
 
       -- the whole search in memory gives the answer

@@ -2,12 +2,12 @@
 -- Assumes nothing.
 use mathlib.Core.Path.{_≡_, refl, sym, _∙_, ap, ap₂}
 use mathlib.Core.Bool.{Bool, true, false, cond}
-use mathlib.Core.List.{List, [], _∷_, _++_}
+use mathlib.Core.List.{List, [], _∷_, _++_, List·Memᴰ}
 use Prim.Native.Nat.{ℕ, zero, suc, _+_, _-_, _≤_, _<_}
 use native.Mathlib.Omega.{arith}
 use native.Mathlib.Numerals.{add-one}
-use lib.ListN.{length, take, set, length-set}
-use lib.Seq.{take-suc-set, take-set-le, take-take, length-take-le}
+use lib.ListN.{length, take, set, getD, length-set}
+use lib.Seq.{take-suc-set, take-set-le, take-take, length-take-le, getD-set-same}
 use lib.Dec.{leb, ltb}
 use Rattle.tries.specs.Tries.{Hereditary, answer}
 use Rattle.tries.specs.Placements.{placements}
@@ -71,15 +71,15 @@ conv-rounds f g h (suc n) i o = go (o .found) (o .stopped) (conv-rounds f g h n 
     go false true e = refl
     go false false e = e
 
-abbrev pub judged : (List ℕ → List ℕ → ℕ → ℕ → ℕ → Bool) → Arrays → ℕ → ℕ × ℕ → Bool
-judged judge m j a = judge (m .0) (m .1) j (a .0) (a .1)
+abbrev pub judged : (List ℕ → List ℕ → ℕ → Bool) → Arrays → ℕ → Bool
+judged fits m j = fits (m .0) (m .1) j
 
-module _ (count modules : ℕ) (width : ℕ → ℕ) (judge : List ℕ → List ℕ → ℕ → ℕ → ℕ → Bool) (limit : ℕ) where
+module _ (count modules : ℕ) (width : ℕ → ℕ) (fits : List ℕ → List ℕ → ℕ → Bool) (limit : ℕ) where
   conv-attempt : (next : Standing → Standing) (nextS : State Arrays → State Arrays) → ((o : Standing) → conv (next o) ≡ nextS (conv o))
-      → (j m t : ℕ) (o : Standing) → conv (attemptOf count modules width judge limit next j m t o) ≡ attemptS count put (judged judge) limit nextS j (m, t) (conv o)
+      → (j m t : ℕ) (o : Standing) → conv (attemptOf count modules width fits limit next j m t o) ≡ attemptS count put (judged fits) limit nextS j (m, t) (conv o)
   unfolding attemptOf attemptS
   conv-attempt next nextS h j m t o =
-      go (leb limit (o .tries)) (judge (o .modules) (o .starts) j m t) (ltb (j + 1) count) (h (begun (o .tries + 1) (set (o .modules) j m) (set (o .starts) j t)))
+      go (leb limit (o .tries)) (fits (set (o .modules) j m) (set (o .starts) j t) j) (ltb (j + 1) count) (h one)
     where
       over : Standing
       over = record { found = false; stopped = true; tries = o .tries; modules = o .modules; starts = o .starts }
@@ -91,32 +91,42 @@ module _ (count modules : ℕ) (width : ℕ → ℕ) (judge : List ℕ → List 
       one = begun (o .tries + 1) (set (o .modules) j m) (set (o .starts) j t)
 
       go : (c d e : Bool) → conv (next one) ≡ nextS (conv one)
-          → conv (cond c over (cond d (cond e (next one) all) (begun (o .tries + 1) (o .modules) (o .starts))))
-          ≡ cond c (conv over) (cond d (cond e (nextS (conv one)) (conv all)) (conv (begun (o .tries + 1) (o .modules) (o .starts))))
+          → conv (cond c over (cond d (cond e (next one) all) one)) ≡ cond c (conv over) (cond d (cond e (nextS (conv one)) (conv all)) (conv one))
       go true d e q = refl
       go false false e q = refl
       go false true true q = q
       go false true false q = refl
 
-  conv-search : (r j : ℕ) (o : Standing) → conv (searchOf count modules width judge limit r j o) ≡ searchS count put (placements modules width) (judged judge) limit r j (conv o)
+  conv-search : (r j : ℕ) (o : Standing) → conv (searchOf count modules width fits limit r j o) ≡ searchS count put (placements modules width) (judged fits) limit r j (conv o)
   unfolding searchOf searchS
   conv-search zero j o = refl
   conv-search (suc r) j o =
       conv-rounds _ (λ m. loop (λ t. try′ (m, t)) (width j) 0)
-      (λ m o. conv-rounds _ (λ t. try′ (m, t)) (λ t o. conv-attempt (searchOf count modules width judge limit r (j + 1)) (searchS count put (placements modules width) (judged judge) limit r (j + 1)) (conv-search r (j + 1)) j m t o) (width j) 0 o)
+      (λ m o. conv-rounds _ (λ t. try′ (m, t)) (λ t o. conv-attempt (searchOf count modules width fits limit r (j + 1)) (searchS count put (placements modules width) (judged fits) limit r (j + 1)) (conv-search r (j + 1)) j m t o) (width j) 0 o)
       modules 0 o
       ∙ grid-is try′ (width j) modules 0 (conv o)
     where
       try′ : ℕ × ℕ → State Arrays → State Arrays
-      try′ = attemptS count put (judged judge) limit (searchS count put (placements modules width) (judged judge) limit r (j + 1)) j
+      try′ = attemptS count put (judged fits) limit (searchS count put (placements modules width) (judged fits) limit r (j + 1)) j
 
-  -- the search of the code gives the answer: after sound placements its test says whether the plan with one more is sound
+  -- the search of the code gives the answer, where after sound placements its test says whether the plan with one more is sound
   pub code-answers : (sound : List (ℕ × ℕ) → Bool) → Hereditary sound
-      → ((j m t : ℕ) (ms ts : List ℕ) → j < count → m < modules → t < width j → count ≤ length ms → count ≤ length ts → sound (read j (ms, ts)) ≡ true → judge ms ts j m t ≡ sound (read j (ms, ts) ++ ((m, t) ∷ [])))
+      → ((j : ℕ) (ms ts : List ℕ) → j < count → getD ms j 0 < modules → getD ts j 0 < width j → count ≤ length ms → count ≤ length ts
+        → sound (placed j ms ts) ≡ true → fits ms ts j ≡ sound (placed (j + 1) ms ts))
       → (ms ts : List ℕ) → count ≤ length ms → count ≤ length ts
-      → shown count (searchOf count modules width judge limit count 0 (begun 0 ms ts)) ≡ answer count (placements modules width) sound limit
+      → shown count (searchOf count modules width fits limit count 0 (begun 0 ms ts)) ≡ answer count (placements modules width) sound limit
   unfolding shown view
   code-answers sound h law ms ts l k =
       ap (view count read) (conv-search count 0 (begun 0 ms ts))
-      ∙ search-answers count put read (Fits count) (arrays-keep count) (placements modules width) (judged judge) sound
-      (record { same = λ j a m i q f s. let g = grid-mem (width j) modules 0 a q in law j (a .0) (a .1) (m .0) (m .1) i (omega arith) (g .1) (f .0) (f .1) s }) limit h (ms, ts) (l, k)
+      ∙ search-answers count put read (Fits count) (arrays-keep count) (placements modules width) (judged fits) sound
+      (record { same = judges }) limit h (ms, ts) (l, k)
+    where
+      judges : (j : ℕ) (a : ℕ × ℕ) (m : Arrays) → j < count → List·Memᴰ a (placements modules width j) → Fits count m → sound (read j m) ≡ true
+          → judged fits (put j a m) j ≡ sound (read (j + 1) (put j a m))
+      judges j a m i q f s =
+          let g = grid-mem (width j) modules 0 a q in
+          law j (set (m .0) j (a .0)) (set (m .1) j (a .1)) i
+          (rw (getD-set-same (m .0) j (a .0) 0 (omega arith)) (omega arith))
+          (rw (getD-set-same (m .1) j (a .1) 0 (omega arith)) (g .1))
+          (rw length-set (f .0)) (rw length-set (f .1))
+          (ap sound (arrays-keep count .same j a m i f) ∙ s)

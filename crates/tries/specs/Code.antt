@@ -24,18 +24,20 @@ unfoldable pub rounds : (ℕ → Standing → Standing) → ℕ → ℕ → Stan
 rounds f zero i o = o
 rounds f (suc n) i o = cond (o .found) o (cond (o .stopped) o (rounds f n (i + 1) (f i o)))
 
--- a search for `count` partitions on `modules` modules, where partition j has `width j` starts; `fits ms ts j m t` tests module m and start t
--- for partition j after the placements of the partitions before it; at most `limit` tries are made
-module _ (count modules : ℕ) (width : ℕ → ℕ) (fits : List ℕ → List ℕ → ℕ → ℕ → ℕ → Bool) (limit : ℕ) where
-  -- one try of module m and start t for partition j; `next` is the search over the partitions left
+-- a search for `count` partitions on `modules` modules, where partition j has `width j` starts; `fits ms ts j` tests the placement of partition j
+-- after those of the partitions before it; at most `limit` tries are made
+module _ (count modules : ℕ) (width : ℕ → ℕ) (fits : List ℕ → List ℕ → ℕ → Bool) (limit : ℕ) where
+  -- one try: partition j is placed, and where that fits the plan is found, or `next` goes on with the partitions left
   -- "the next partition is taken up only from inside a try"
   unfoldable pub attemptOf : (Standing → Standing) → ℕ → ℕ → ℕ → Standing → Standing
   attemptOf next j m t o =
+      let ms : List ℕ = set (o .modules) j m in
+      let ts : List ℕ = set (o .starts) j t in
       cond (leb limit (o .tries)) (record { found = false; stopped = true; tries = o .tries; modules = o .modules; starts = o .starts })
-      (cond (fits (o .modules) (o .starts) j m t)
-      (cond (ltb (j + 1) count) (next (begun (o .tries + 1) (set (o .modules) j m) (set (o .starts) j t)))
-      (record { found = true; stopped = false; tries = o .tries + 1; modules = set (o .modules) j m; starts = set (o .starts) j t }))
-      (begun (o .tries + 1) (o .modules) (o .starts)))
+      (cond (fits ms ts j)
+      (cond (ltb (j + 1) count) (next (begun (o .tries + 1) ms ts))
+      (record { found = true; stopped = false; tries = o .tries + 1; modules = ms; starts = ts }))
+      (begun (o .tries + 1) ms ts))
 
   -- the search over the placements of partition j, with r partitions left: "by partition, module, then start, all ascending"
   unfoldable pub searchOf : ℕ → ℕ → Standing → Standing
