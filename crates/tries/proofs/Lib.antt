@@ -4,3 +4,4 @@ pub mod Laws
 pub mod Meaning
 pub mod Bridge
 pub mod TwoArrays
+pub mod Kept
