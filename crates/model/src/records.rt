@@ -1,6 +1,9 @@
-// The records of a sheet and a plan, as the tables of document 01 read. Delays stand beside the sheet, sixteen rows of sixteen.
+// The records of a sheet and a plan, as the tables of document 01 read, each with its limits and the widths of its fields beside it.
+// Delays stand beside the sheet, sixteen rows of sixteen.
 ghost use mathlib.Core.Path.{_≡_};
-ghost use Rattle.model.specs.Limits.{mostModules, mostPartitions, mostExclusions, mostChains, leastMembers, mostMembers};
+ghost use Rattle.model.specs.Limits.{sheetVersion, leastModules, mostModules, leastPartitions, mostPartitions, mostExclusions, mostChains, leastMembers, mostMembers};
+ghost use Rattle.model.specs.Widths.{versionBits, modulesBits, partitionsBits, exclusionsBits, chainsBits, spareBits, headBits, cabinetBits, memoryBits, mostBits, moduleBits, delayBits, periodBits, budgetBits, partitionBits, partitionNumberBits, kindBits, exclusionBits, limitBits, lengthBits, leadBits, moduleNumberBits, startBits, placementBits};
+ghost use Rattle.model.specs.None.{noSheet, noPlan};
 
 pub struct Head {
     pub version: u8,
@@ -11,10 +14,43 @@ pub struct Head {
     pub spare: u8,
 }
 
+impl Head {
+    pub const VERSION: u8 = 1;
+
+    pub const VERSION_BITS: usize = 4;
+
+    pub const MODULES_BITS: usize = 5;
+
+    pub const PARTITIONS_BITS: usize = 7;
+
+    pub const EXCLUSIONS_BITS: usize = 9;
+
+    pub const CHAINS_BITS: usize = 6;
+
+    pub const SPARE_BITS: usize = 1;
+
+    pub const BITS: usize = Head::VERSION_BITS
+        + Head::MODULES_BITS
+        + Head::PARTITIONS_BITS
+        + Head::EXCLUSIONS_BITS
+        + Head::CHAINS_BITS
+        + Head::SPARE_BITS;
+}
+
 pub struct Module {
     pub cabinet: u8,
     pub memory: u32,
     pub most: u8,
+}
+
+impl Module {
+    pub const CABINET_BITS: usize = 3;
+
+    pub const MEMORY_BITS: usize = 20;
+
+    pub const MOST_BITS: usize = 7;
+
+    pub const BITS: usize = Module::CABINET_BITS + Module::MEMORY_BITS + Module::MOST_BITS;
 }
 
 pub struct Partition {
@@ -23,11 +59,32 @@ pub struct Partition {
     pub memory: u32,
 }
 
+impl Partition {
+    pub const PERIOD_BITS: usize = 16;
+
+    pub const BUDGET_BITS: usize = 16;
+
+    pub const MEMORY_BITS: usize = 20;
+
+    pub const BITS: usize = Partition::PERIOD_BITS
+        + Partition::BUDGET_BITS
+        + Partition::MEMORY_BITS;
+
+    // A partition's number, where an exclusion or a chain names it.
+    pub const NUMBER_BITS: usize = 6;
+}
+
 // kind 0 excludes the same module, kind 1 the same cabinet.
 pub struct Exclusion {
     pub kind: u8,
     pub first: u8,
     pub second: u8,
+}
+
+impl Exclusion {
+    pub const KIND_BITS: usize = 1;
+
+    pub const BITS: usize = Exclusion::KIND_BITS + Partition::NUMBER_BITS + Partition::NUMBER_BITS;
 }
 
 pub struct Chain {
@@ -40,6 +97,13 @@ impl Chain {
     pub const FEWEST: u8 = 2;
 
     pub const MEMBERS: usize = 16;
+
+    pub const LIMIT_BITS: usize = 24;
+
+    pub const LENGTH_BITS: usize = 5;
+
+    // The leading bits, before the members.
+    pub const LEAD_BITS: usize = Chain::LIMIT_BITS + Chain::LENGTH_BITS;
 }
 
 pub struct Sheet {
@@ -51,13 +115,65 @@ pub struct Sheet {
 }
 
 impl Sheet {
+    pub const FEWEST_MODULES: usize = 1;
+
     pub const MODULES: usize = 16;
+
+    pub const FEWEST_PARTITIONS: usize = 1;
 
     pub const PARTITIONS: usize = 64;
 
     pub const EXCLUSIONS: usize = 400;
 
     pub const CHAINS: usize = 32;
+
+    pub const DELAY_BITS: usize = 16;
+
+    // The sheet of a refusal: zeros.
+    pub fn none() -> Sheet
+        ensures { λ r. ⌜ r ≡ noSheet ⌝ }
+    {
+        let head = Head {
+            version: 0,
+            modules: 0,
+            partitions: 0,
+            exclusions: 0,
+            chains: 0,
+            spare: 0,
+        };
+        let m = Module {
+            cabinet: 0,
+            memory: 0,
+            most: 0,
+        };
+        let p = Partition {
+            period: 0,
+            budget: 0,
+            memory: 0,
+        };
+        let x = Exclusion {
+            kind: 0,
+            first: 0,
+            second: 0,
+        };
+        let members = [0u8; Chain::MEMBERS];
+        let c = Chain {
+            limit: 0,
+            length: 0,
+            members,
+        };
+        let modules = [m; Sheet::MODULES];
+        let partitions = [p; Sheet::PARTITIONS];
+        let exclusions = [x; Sheet::EXCLUSIONS];
+        let chains = [c; Sheet::CHAINS];
+        Sheet {
+            head,
+            modules,
+            partitions,
+            exclusions,
+            chains,
+        }
+    }
 }
 
 // The module and the start of each partition, in order.
@@ -66,9 +182,30 @@ pub struct Plan {
     pub starts: [u32; Sheet::PARTITIONS],
 }
 
+impl Plan {
+    pub const MODULE_BITS: usize = 4;
+
+    pub const START_BITS: usize = 16;
+
+    // Module and start of one partition.
+    pub const BITS: usize = Plan::MODULE_BITS + Plan::START_BITS;
+
+    // The plan of a refusal: zeros.
+    pub fn none() -> Plan
+        ensures { λ r. ⌜ r ≡ noPlan ⌝ }
+    {
+        let modules = [0u32; Sheet::PARTITIONS];
+        let starts = [0u32; Sheet::PARTITIONS];
+        Plan { modules, starts }
+    }
+}
+
 // Each limit is the one that specs/ name.
 fn limits_agree()
+    ensures { λ _. do ⌜ (← ⟦Head::VERSION⟧ .entry) ≡ sheetVersion ⌝ }
+    ensures { λ _. do ⌜ (← ⟦Sheet::FEWEST_MODULES⟧ .entry) ≡ leastModules ⌝ }
     ensures { λ _. do ⌜ (← ⟦Sheet::MODULES⟧ .entry) ≡ mostModules ⌝ }
+    ensures { λ _. do ⌜ (← ⟦Sheet::FEWEST_PARTITIONS⟧ .entry) ≡ leastPartitions ⌝ }
     ensures { λ _. do ⌜ (← ⟦Sheet::PARTITIONS⟧ .entry) ≡ mostPartitions ⌝ }
     ensures { λ _. do ⌜ (← ⟦Sheet::EXCLUSIONS⟧ .entry) ≡ mostExclusions ⌝ }
     ensures { λ _. do ⌜ (← ⟦Sheet::CHAINS⟧ .entry) ≡ mostChains ⌝ }
@@ -76,10 +213,31 @@ fn limits_agree()
     ensures { λ _. do ⌜ (← ⟦Chain::MEMBERS⟧ .entry) ≡ mostMembers ⌝ }
 {}
 
-// The parts of a sheet whose records are of equal width.
-pub enum Part {
-    Modules,
-    Delays,
-    Partitions,
-    Exclusions,
-}
+// Each width is the one that specs/ name.
+fn widths_agree()
+    ensures { λ _. do ⌜ (← ⟦Head::VERSION_BITS⟧ .entry) ≡ versionBits ⌝ }
+    ensures { λ _. do ⌜ (← ⟦Head::MODULES_BITS⟧ .entry) ≡ modulesBits ⌝ }
+    ensures { λ _. do ⌜ (← ⟦Head::PARTITIONS_BITS⟧ .entry) ≡ partitionsBits ⌝ }
+    ensures { λ _. do ⌜ (← ⟦Head::EXCLUSIONS_BITS⟧ .entry) ≡ exclusionsBits ⌝ }
+    ensures { λ _. do ⌜ (← ⟦Head::CHAINS_BITS⟧ .entry) ≡ chainsBits ⌝ }
+    ensures { λ _. do ⌜ (← ⟦Head::SPARE_BITS⟧ .entry) ≡ spareBits ⌝ }
+    ensures { λ _. do ⌜ (← ⟦Head::BITS⟧ .entry) ≡ headBits ⌝ }
+    ensures { λ _. do ⌜ (← ⟦Module::CABINET_BITS⟧ .entry) ≡ cabinetBits ⌝ }
+    ensures { λ _. do ⌜ (← ⟦Module::MEMORY_BITS⟧ .entry) ≡ memoryBits ⌝ }
+    ensures { λ _. do ⌜ (← ⟦Module::MOST_BITS⟧ .entry) ≡ mostBits ⌝ }
+    ensures { λ _. do ⌜ (← ⟦Module::BITS⟧ .entry) ≡ moduleBits ⌝ }
+    ensures { λ _. do ⌜ (← ⟦Sheet::DELAY_BITS⟧ .entry) ≡ delayBits ⌝ }
+    ensures { λ _. do ⌜ (← ⟦Partition::PERIOD_BITS⟧ .entry) ≡ periodBits ⌝ }
+    ensures { λ _. do ⌜ (← ⟦Partition::BUDGET_BITS⟧ .entry) ≡ budgetBits ⌝ }
+    ensures { λ _. do ⌜ (← ⟦Partition::MEMORY_BITS⟧ .entry) ≡ memoryBits ⌝ }
+    ensures { λ _. do ⌜ (← ⟦Partition::BITS⟧ .entry) ≡ partitionBits ⌝ }
+    ensures { λ _. do ⌜ (← ⟦Partition::NUMBER_BITS⟧ .entry) ≡ partitionNumberBits ⌝ }
+    ensures { λ _. do ⌜ (← ⟦Exclusion::KIND_BITS⟧ .entry) ≡ kindBits ⌝ }
+    ensures { λ _. do ⌜ (← ⟦Exclusion::BITS⟧ .entry) ≡ exclusionBits ⌝ }
+    ensures { λ _. do ⌜ (← ⟦Chain::LIMIT_BITS⟧ .entry) ≡ limitBits ⌝ }
+    ensures { λ _. do ⌜ (← ⟦Chain::LENGTH_BITS⟧ .entry) ≡ lengthBits ⌝ }
+    ensures { λ _. do ⌜ (← ⟦Chain::LEAD_BITS⟧ .entry) ≡ leadBits ⌝ }
+    ensures { λ _. do ⌜ (← ⟦Plan::MODULE_BITS⟧ .entry) ≡ moduleNumberBits ⌝ }
+    ensures { λ _. do ⌜ (← ⟦Plan::START_BITS⟧ .entry) ≡ startBits ⌝ }
+    ensures { λ _. do ⌜ (← ⟦Plan::BITS⟧ .entry) ≡ placementBits ⌝ }
+{}
