@@ -1,0 +1,9 @@
+// The search: the first accepted plan within a budget of tries, or that there is none, or that the budget is spent.
+ghost use mathlib.Core.Path.{_≡_};
+
+// What the search answers: its number (0 found, 26 no plan, 27 stopped, or that of a refusal) and the tries made.
+#[repr(C)]
+pub struct Found {
+    pub number: u8,
+    pub tries: u32,
+}
