@@ -1,3 +1,6 @@
 pub mod Passed
 pub mod Alike
 pub mod Hereditary
+pub mod Exact
+pub mod Plans
+pub mod Theorems

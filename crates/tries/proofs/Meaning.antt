@@ -271,8 +271,12 @@ module _ {A : Type 0} where
         no-word f u o true q = let t = (accepted-iff n sound u) .0 q in absurd (true≢false (sym (t .1) ∙ f u o (t .0)))
         no-word f u o false q = q
 
+    -- where there is no plan all tries are needed
+    pub none-needs-all : first n choices sound ≡ none → needed n choices sound ≡ length (tries n choices sound)
+    unfolding first needed
+    none-needs-all e = (firstOf-none (accepted n sound) (tries n choices sound) e) .1
+
     -- that there is none comes with the number of all tries, and then no word of n placements over the choices is sound
     pub absent-all : (b k : ℕ) → answer n choices sound b ≡ absent k → (length (tries n choices sound) ≡ k) × ((w : List A) → Over choices 0 w → length w ≡ n → sound w ≡ false)
-    unfolding first needed
     absent-all b k e = let t = (absent-iff n choices sound b k) .0 e in
-        (sym ((firstOf-none (accepted n sound) (tries n choices sound) (t .0)) .1) ∙ t .1, none-iff .0 (t .0))
+        (sym (none-needs-all (t .0)) ∙ t .1, none-iff .0 (t .0))

@@ -50,6 +50,14 @@ mem-grid w (suc n) i m t l h k = go (ℕ-discrete i m) (λ a b. mem-grid w n (i 
     go (yes e) f = rw e (Memᴰ·append-left _ (Memᴰ·map (λ (t : ℕ). (m, t)) (mem-upward w 0 t (omega arith) (omega arith))))
     go (no e) f = Memᴰ·append-right (map {B = ℕ × ℕ} (λ t. (i, t)) (upward w 0)) (f (omega arith) (omega arith))
 
+-- where there are starts and modules there are placements
+pub some-placement : (modules : ℕ) (width : ℕ → ℕ) (j : ℕ) → 0 < modules → 0 < width j → 0 < length (placements modules width j)
+some-placement modules width j h k = go (placements modules width j) (mem-grid (width j) modules 0 0 0 (omega arith) (omega arith) k)
+  where
+    go : (l : List (ℕ × ℕ)) → List·Memᴰ (0, 0) l → 0 < length l
+    go [] m = absurd (List·Memᴰ·not-nil m)
+    go (a ∷ l) m = omega arith
+
 -- the module and the start of the placements of a word
 abbrev pub modulesOf : List (ℕ × ℕ) → List ℕ
 modulesOf w = map (λ a. a .0) w
