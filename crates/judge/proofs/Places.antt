@@ -81,10 +81,10 @@ module _ (f : ℕ → Bool) where
   passes-before (suc k) i j h g =
       by-answer (f i)
       (λ e.
-        elim (ℕ-discrete i j) [
-          yes q ↦ rw q at e
+      elim (ℕ-discrete i j) [
+        | yes q ↦ rw q at e
         | no q ↦ passes-before k (suc i) j (lt-of-le-ne h q) (rw (from-pass k i e) at g)
-        ])
+      ])
       (λ e. absurd (let w = rw (from-hit k i e) at g in omega arith))
 
   pub fails-none : (k i : ℕ) → ((j : ℕ) → i ≤ j → j < i + k → f j ≡ true) → failsFrom f k i ≡ i + k
@@ -124,8 +124,8 @@ module _ (f : ℕ → Bool) where
   passes-is (suc k) i =
       by-answer (f i)
       (λ e.
-        let s : suc i + k ≡ i + suc k = omega arith in
-        passes-here k i e ∙ passes-is k (suc i) ∙ rw (s, from-pass k i e))
+      let s : suc i + k ≡ i + suc k = omega arith in
+      passes-here k i e ∙ passes-is k (suc i) ∙ rw (s, from-pass k i e))
       (λ e. passes-not k i e ∙ sym (ne-eqb (failsFrom f (suc k) i) (i + suc k) (let h = from-hit k i e in omega arith)))
 
   module _ (n : ℕ) where

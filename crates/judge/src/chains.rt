@@ -20,7 +20,14 @@ fn ticks(x: u16) -> u64
 }
 
 // The sum over neighbouring members (i, then k) of Bi + Tk + the delay from i's module to k's module.
-pub fn chain_delay(members: [u8; Chain::MEMBERS], length: usize, periods: &[u32; Sheet::PARTITIONS], budgets: &[u32; Sheet::PARTITIONS], modules: &[u32; Sheet::PARTITIONS], delays: [[u16; Sheet::MODULES]; Sheet::MODULES]) -> u64
+pub fn chain_delay(
+    members: [u8; Chain::MEMBERS],
+    length: usize,
+    periods: &[u32; Sheet::PARTITIONS],
+    budgets: &[u32; Sheet::PARTITIONS],
+    modules: &[u32; Sheet::PARTITIONS],
+    delays: [[u16; Sheet::MODULES]; Sheet::MODULES],
+) -> u64
     requires { ⌜ length ≤ mostMembers ⌝ }
     requires { ⌜ AllPlaced (now modules) members length ⌝ }
     ensures { λ r. ⌜ r ≡ chainDelay (now (periods .entry)) (now (budgets .entry)) delays (now (modules .entry)) members length ⌝ }
@@ -39,7 +46,14 @@ pub fn chain_delay(members: [u8; Chain::MEMBERS], length: usize, periods: &[u32;
 }
 
 // C8: the lowest chain whose delay is above its limit; the count where there is none.
-pub fn past_the_limit(chains: [Chain; Sheet::CHAINS], count: usize, periods: &[u32; Sheet::PARTITIONS], budgets: &[u32; Sheet::PARTITIONS], modules: &[u32; Sheet::PARTITIONS], delays: [[u16; Sheet::MODULES]; Sheet::MODULES]) -> usize
+pub fn past_the_limit(
+    chains: [Chain; Sheet::CHAINS],
+    count: usize,
+    periods: &[u32; Sheet::PARTITIONS],
+    budgets: &[u32; Sheet::PARTITIONS],
+    modules: &[u32; Sheet::PARTITIONS],
+    delays: [[u16; Sheet::MODULES]; Sheet::MODULES],
+) -> usize
     requires { ⌜ count ≤ mostChains ⌝ }
     requires { ⌜ ((c : ℕ) → c < count → (getD chains c emptyChain .length ≤ mostMembers) × AllPlaced (now modules) (getD chains c emptyChain .members) (getD chains c emptyChain .length)) ⌝ }
     ensures { λ r. ⌜ r ≡ firstFail (λ c. c8 (now (periods .entry)) (now (budgets .entry)) delays (now (modules .entry)) (getD chains c emptyChain)) count ⌝ }
@@ -48,7 +62,16 @@ pub fn past_the_limit(chains: [Chain; Sheet::CHAINS], count: usize, periods: &[u
     while c < count {
         let chain = chains[c];
         let members = chain.members;
-        if chain_delay(members, member(chain.length), periods, budgets, modules, delays) > wide(chain.limit) {
+        if chain_delay(
+            members,
+            member(chain.length),
+            periods,
+            budgets,
+            modules,
+            delays,
+        )
+            > wide(chain.limit)
+        {
             return c;
         }
         c += 1;

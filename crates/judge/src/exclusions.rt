@@ -28,7 +28,11 @@ pub fn apart_by_module(x: Exclusion, modules: &[u32; Sheet::PARTITIONS]) -> bool
 }
 
 // C7 of one exclusion.
-pub fn apart_by_cabinet(x: Exclusion, rooms: [Module; Sheet::MODULES], modules: &[u32; Sheet::PARTITIONS]) -> bool
+pub fn apart_by_cabinet(
+    x: Exclusion,
+    rooms: [Module; Sheet::MODULES],
+    modules: &[u32; Sheet::PARTITIONS],
+) -> bool
     requires { ⌜ BothPlaced (now modules) x ⌝ }
     ensures { λ r. ⌜ r ≡ c7 rooms (now (modules .entry)) x ⌝ }
 {
@@ -44,7 +48,11 @@ pub fn apart_by_cabinet(x: Exclusion, rooms: [Module; Sheet::MODULES], modules: 
 }
 
 // C6: the lowest exclusion entry whose two are on one module; the count where there is none.
-pub fn shared_module(exclusions: [Exclusion; Sheet::EXCLUSIONS], count: usize, modules: &[u32; Sheet::PARTITIONS]) -> usize
+pub fn shared_module(
+    exclusions: [Exclusion; Sheet::EXCLUSIONS],
+    count: usize,
+    modules: &[u32; Sheet::PARTITIONS],
+) -> usize
     requires { ⌜ count ≤ mostExclusions ⌝ }
     requires { ⌜ ((x : ℕ) → x < count → BothPlaced (now modules) (getD exclusions x noExclusion)) ⌝ }
     ensures { λ r. ⌜ r ≡ firstFail (λ x. c6 (now (modules .entry)) (getD exclusions x noExclusion)) count ⌝ }
@@ -61,7 +69,12 @@ pub fn shared_module(exclusions: [Exclusion; Sheet::EXCLUSIONS], count: usize, m
 }
 
 // C7: the lowest exclusion entry whose two are in one cabinet; the count where there is none.
-pub fn shared_cabinet(exclusions: [Exclusion; Sheet::EXCLUSIONS], count: usize, rooms: [Module; Sheet::MODULES], modules: &[u32; Sheet::PARTITIONS]) -> usize
+pub fn shared_cabinet(
+    exclusions: [Exclusion; Sheet::EXCLUSIONS],
+    count: usize,
+    rooms: [Module; Sheet::MODULES],
+    modules: &[u32; Sheet::PARTITIONS],
+) -> usize
     requires { ⌜ count ≤ mostExclusions ⌝ }
     requires { ⌜ ((x : ℕ) → x < count → BothPlaced (now modules) (getD exclusions x noExclusion)) ⌝ }
     ensures { λ r. ⌜ r ≡ firstFail (λ x. c7 rooms (now (modules .entry)) (getD exclusions x noExclusion)) count ⌝ }

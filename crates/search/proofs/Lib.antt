@@ -4,3 +4,6 @@ pub mod Hereditary
 pub mod Exact
 pub mod Plans
 pub mod Theorems
+pub mod Desk
+pub mod Judges
+pub mod Gives

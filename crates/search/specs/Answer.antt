@@ -2,7 +2,6 @@
 -- Assumes nothing.
 use mathlib.Core.List.{List}
 use Prim.Native.Nat.{ℕ}
-
 use Rattle.lists.specs.Filled.{filled}
 use Rattle.model.specs.declared.records.Sheet.{Sheet}
 use Rattle.judge.specs.Constraints.{at}

@@ -42,7 +42,7 @@ module _ (count modules : ℕ) (width : ℕ → ℕ) (fits : List ℕ → List �
 
       go : (c d e : Bool) → getD (next placed .modules) i 0 ≡ getD (o .modules) i 0
           → getD (cond c (record { found = false; stopped = true; tries = o .tries; modules = o .modules; starts = o .starts })
-            (cond d (cond e (next placed) (record { found = true; stopped = false; tries = o .tries + 1; modules = set (o .modules) j m; starts = set (o .starts) j t })) placed) .modules) i 0
+          (cond d (cond e (next placed) (record { found = true; stopped = false; tries = o .tries + 1; modules = set (o .modules) j m; starts = set (o .starts) j t })) placed) .modules) i 0
           ≡ getD (o .modules) i 0
       go true d e q = refl
       go false false e q = kept

@@ -112,7 +112,7 @@ module _ (count modules : ℕ) (width : ℕ → ℕ) (fits : List ℕ → List �
   -- the search of the code gives the answer, where after sound placements its test says whether the plan with one more is sound
   pub code-answers : (sound : List (ℕ × ℕ) → Bool) → Hereditary sound
       → ((j : ℕ) (ms ts : List ℕ) → j < count → getD ms j 0 < modules → getD ts j 0 < width j → count ≤ length ms → count ≤ length ts
-        → sound (placed j ms ts) ≡ true → fits ms ts j ≡ sound (placed (j + 1) ms ts))
+      → sound (placed j ms ts) ≡ true → fits ms ts j ≡ sound (placed (j + 1) ms ts))
       → (ms ts : List ℕ) → count ≤ length ms → count ≤ length ts
       → shown count (searchOf count modules width fits limit count 0 (begun 0 ms ts)) ≡ answer count (placements modules width) sound limit
   unfolding shown view
