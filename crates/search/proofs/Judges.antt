@@ -22,7 +22,7 @@ use Rattle.search.specs.Desk.{cell, deskOf, largest, pairAt, divisorsOf,
 use Rattle.search.proofs.Passed.{Passed, sound-passed, passed-sound, both, fore, rest, asked, answered, each, all}
 use Rattle.search.proofs.Hereditary.{same-test, fewer-passed}
 use Rattle.search.proofs.Exact.{budget-within}
-use Rattle.search.proofs.Desk.{room-at, exclusion-at, chain-at, members-at, divisor-at, member-at-most, largest-below}
+use Rattle.search.proofs.Tables.{room-at, exclusion-at, chain-at, members-at, divisor-at, member-at-most, largest-below}
 
 -- what holds of each below j, and of j
 at-last : (P : ℕ → Type 0) (i j : ℕ) → i < suc j → (i < j → P i) → P j → P i
@@ -69,7 +69,7 @@ module _ (s : Sheet) (delays : List (List ℕ)) (fair : Fair s delays) (ms ts : 
       let d = divisor-at T (s .head .partitions) i j (fair .head .inside .partitions) (omega arith) (omega (arith, fair .head .inside .partitions)) in
       ap (λ g. not (eqb (at ms i) (at ms j)) || clearBy g (at ts i) (at B i) (at ts j) (at B j)) d
 
-  room-is : roomFor (memoriesOf s) (roomsOf s) ms j ≡ (c4 (s .modules) (memoriesOf s) ms (suc j) (at ms j) && c5 (s .modules) ms (suc j) (at ms j))
+  room-is : roomFor (memoriesOf s) (roomsOf s) ms j ≡ (c5 (s .modules) ms (suc j) (at ms j) && c4 (s .modules) (memoriesOf s) ms (suc j) (at ms j))
   unfolding roomFor c4 c5
   room-is = rw (add-one j, room-at s delays fair (at ms j) (below j (omega arith)))
 
@@ -113,8 +113,8 @@ module _ (s : Sheet) (delays : List (List ℕ)) (fair : Fair s delays) (ms ts : 
       let room = sym room-is ∙ fore room? (parted? && kept?) e2 in
       record {
         two = λ i h. sym (clear-is i h) ∙ each (clearAt (divisorsOf T (s .head .partitions)) B ms ts j) j (fore clear? (room? && (parted? && kept?)) e) i h;
-        four = fore c4? c5? room;
-        five = rest c4? c5? room;
+        four = rest c5? c4? room;
+        five = fore c5? c4? room;
         six = λ x h q. sym (parted-is x h q) ∙ each (partedAt (roomsOf s) (exclusionsOf s) ms j) (s .head .exclusions) (fore parted? kept? e3) x h;
         eight = λ c h q. answered (eqb (largest (chainAt s c .members) (chainAt s c .length)) j) (c8 T B delays ms (chainAt s c))
             (sym (kept-is c h) ∙ each (keptAt T B (chainsOf s) (membersOf s) delays ms j) (s .head .chains) (rest parted? kept? e3) c h) (eq-eqb _ _ q);
@@ -124,7 +124,7 @@ module _ (s : Sheet) (delays : List (List ℕ)) (fair : Fair s delays) (ms ts : 
   unfolding fitsBy clearOf partedOf keptOf
   fitting-fits f =
       both (all (clearAt (divisorsOf T (s .head .partitions)) B ms ts j) j (λ i h. clear-is i h ∙ f .two i h))
-      (both (room-is ∙ both (f .four) (f .five))
+      (both (room-is ∙ both (f .five) (f .four))
       (both (all (partedAt (roomsOf s) (exclusionsOf s) ms j) (s .head .exclusions) parts)
       (all (keptAt T B (chainsOf s) (membersOf s) delays ms j) (s .head .chains)
       (λ c h. kept-is c h ∙ asked (eqb (largest (chainAt s c .members) (chainAt s c .length)) j) (c8 T B delays ms (chainAt s c)) (λ e. f .eight c h (eqb-true _ _ e))))))

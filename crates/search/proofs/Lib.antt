@@ -4,6 +4,7 @@ pub mod Hereditary
 pub mod Exact
 pub mod Plans
 pub mod Theorems
-pub mod Desk
+pub mod Tables
 pub mod Judges
 pub mod Gives
+pub mod Tested

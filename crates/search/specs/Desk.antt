@@ -24,14 +24,12 @@ abbrev pub cell : List (List ℕ) → ℕ → ℕ → ℕ
 cell rows i k = at (getD rows i []) k
 
 pub record Desk : Type 0 where
-  -- of the partitions: how many, their columns, and the greatest common divisors of the periods of all pairs, 64 to a row
-  pub count : ℕ
+  -- of the partitions: their columns, and the greatest common divisors of the periods of all pairs, 64 to a row
   pub periods : List ℕ
   pub budgets : List ℕ
   pub memories : List ℕ
   pub divisors : List ℕ
-  -- of the modules: how many, and of each the cabinet, the memory and the most partitions
-  pub hosts : ℕ
+  -- of each module: the cabinet, the memory and the most partitions
   pub rooms : List (List ℕ)
   -- of the exclusions: how many, and of each the kind and the two partitions
   pub excluded : ℕ
@@ -41,6 +39,23 @@ pub record Desk : Type 0 where
   pub chains : List (List ℕ)
   pub members : List (List ℕ)
   pub delays : List (List ℕ)
+
+abbrev pub desk : (periods budgets memories divisors : List ℕ) (rooms : List (List ℕ)) (excluded : ℕ) (exclusions : List (List ℕ))
+    (chained : ℕ) (chains members delays : List (List ℕ)) → Desk
+desk periods budgets memories divisors rooms excluded exclusions chained chains members delays =
+    record {
+      periods = periods;
+      budgets = budgets;
+      memories = memories;
+      divisors = divisors;
+      rooms = rooms;
+      excluded = excluded;
+      exclusions = exclusions;
+      chained = chained;
+      chains = chains;
+      members = members;
+      delays = delays;
+    }
 
 abbrev pub roomOf : Module → List ℕ
 roomOf m = m .cabinet ∷ m .memory ∷ m .most ∷ []
@@ -79,21 +94,8 @@ membersOf s = filled mostChains (s .head .chains) (λ c. chainAt s c .members) (
 -- the desk of a sheet
 abbrev pub deskOf : Sheet → (delays : List (List ℕ)) → Desk
 deskOf s delays =
-    record {
-      count = s .head .partitions;
-      periods = periodsOf s;
-      budgets = budgetsOf s;
-      memories = memoriesOf s;
-      divisors = divisorsOf (periodsOf s) (s .head .partitions);
-      hosts = s .head .modules;
-      rooms = roomsOf s;
-      excluded = s .head .exclusions;
-      exclusions = exclusionsOf s;
-      chained = s .head .chains;
-      chains = chainsOf s;
-      members = membersOf s;
-      delays = delays;
-    }
+    desk (periodsOf s) (budgetsOf s) (memoriesOf s) (divisorsOf (periodsOf s) (s .head .partitions)) (roomsOf s) (s .head .exclusions) (exclusionsOf s)
+    (s .head .chains) (chainsOf s) (membersOf s) delays
 
 -- how many starts partition j has: 0 to T - B
 abbrev pub widthOf : (periods budgets : List ℕ) → ℕ → ℕ
@@ -108,11 +110,11 @@ clearAt divisors budgets ms ts j i =
 unfoldable pub clearOf : (divisors budgets ms ts : List ℕ) → ℕ → Bool
 clearOf divisors budgets ms ts j = passes (clearAt divisors budgets ms ts j) j
 
--- C4 and C5 of the module that j is placed on
+-- C5 and C4 of the module that j is placed on
 unfoldable pub roomFor : (memories : List ℕ) (rooms : List (List ℕ)) (ms : List ℕ) → ℕ → Bool
 roomFor memories rooms ms j =
-    leb (totalOn memories ms (at ms j) (j + 1)) (cell rooms (at ms j) 1)
-    && leb (hostedOn ms (at ms j) (j + 1)) (cell rooms (at ms j) 2)
+    leb (hostedOn ms (at ms j) (j + 1)) (cell rooms (at ms j) 2)
+    && leb (totalOn memories ms (at ms j) (j + 1)) (cell rooms (at ms j) 1)
 
 -- C6 or C7 of exclusion x, where j is its second partition
 unfoldable pub partedAt : (rooms exclusions : List (List ℕ)) (ms : List ℕ) → (j x : ℕ) → Bool
