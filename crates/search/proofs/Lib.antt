@@ -8,3 +8,4 @@ pub mod Tables
 pub mod Judges
 pub mod Gives
 pub mod Tested
+pub mod Laid

@@ -1,5 +1,6 @@
 // The search: the first accepted plan within a budget of tries, or that there is none, or that the budget is spent (document 01, "The search
 // and its tries"). It knows decoded values and nothing of bits.
+pub mod attempts;
 pub mod desk;
 mod fits;
 

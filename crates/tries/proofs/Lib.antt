@@ -5,3 +5,5 @@ pub mod Meaning
 pub mod Bridge
 pub mod TwoArrays
 pub mod Kept
+pub mod Going
+pub mod Tried
