@@ -5,6 +5,7 @@ use mathlib.Core.List.{List, [], _∷_}
 use Prim.Native.Nat.{ℕ, zero, suc, _+_, _-_, _*_, _/_, _%_, _<_, _≤_}
 use native.Mathlib.Omega.{arith}
 use native.Mathlib.Decide.{decLt}
+use native.Mathlib.Numerals.{add-one}
 use lib.Dec.{ltb}
 use lib.ListN.{getD, replicate}
 use borrow.Author.Tests.{lt-ltb, le-ltb, ltb-true, ltb-false}
@@ -56,6 +57,15 @@ module _ (members : List ℕ) where
   unfolding largest
   largest-below zero j h f = h
   largest-below (suc n) j h f = larger-below (largest members n) (at members n) j (largest-below n j h (λ i l. f i (omega arith))) (f n (omega arith))
+
+  -- one member more
+  pub largest-grows : (i : ℕ) {most : ℕ} → most ≡ largest members i → most < at members i → at members i ≡ largest members (i + 1)
+  unfolding largest
+  largest-grows i {most} e h = rw (add-one i, ← e, lt-ltb most (at members i) h)
+
+  pub largest-stays : (i : ℕ) {most : ℕ} → most ≡ largest members i → at members i ≤ most → most ≡ largest members (i + 1)
+  unfolding largest
+  largest-stays i {most} e h = rw (add-one i, ← e, le-ltb most (at members i) h)
 
 -- ---- the tables
 module _ (s : Sheet) (delays : List (List ℕ)) (fair : Fair s delays) where
