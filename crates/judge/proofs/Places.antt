@@ -1,28 +1,22 @@
 -- The laws of the first failing place: what it means, and the turns of a loop that looks for it.
 -- Assumes nothing.
 use mathlib.Core.Path.{_≡_, refl, ap, _∙_, sym}
-use mathlib.Core.Bool.{Bool, true, false}
+use mathlib.Core.Bool.{Bool, true, false, not}
 use mathlib.Core.Logic.{_↔_}
 use Prim.Native.Nat.{ℕ, zero, suc, _+_, _-_, _<_, _≤_}
 use native.Mathlib.Omega.{arith}
 use native.Mathlib.Nat.{sub-zero}
 use native.Mathlib.Numerals.{add-one}
 use native.Mathlib.Decide.{ℕ-discrete}
+use borrow.Author.Tests.{eq-eqb, ne-eqb, eqb-true, not-true, not-false}
 use lib.Arith.{lt-of-le-ne}
 use lib.Dec.{eqb}
-use borrow.Author.Tests.{eq-eqb, ne-eqb, eqb-true}
 use Rattle.judge.specs.Places.{failsFrom, firstFail, passesFrom, passes}
 
 -- a test passes or fails
 pub by-answer {ℓ} : (b : Bool) {A : Type ℓ} → (b ≡ true → A) → (b ≡ false → A) → A
 by-answer true t f = t refl
 by-answer false t f = f refl
-
-pub not-both : (b : Bool) → b ≡ true → b ≡ false → ⊥
-not-both b t f = let z : true ≡ false = sym t ∙ f in absurd (cc-false z)
-  where
-    cc-false : true ≡ false → ⊥
-    cc-false z = let e : _≡_ {A = ℕ} 0 1 = cc in omega arith
 
 module _ (f : ℕ → Bool) where
   -- ---- one place
@@ -44,6 +38,14 @@ module _ (f : ℕ → Bool) where
   fails-pass n i h e inv =
       let k : n - i ≡ suc (n - suc i) = omega arith in
       rw add-one (sym (from-pass (n - suc i) i e) ∙ sym (ap (λ (j : ℕ). failsFrom f j i) k) ∙ inv)
+
+  -- the same where the code asks `if !r` of a callee's answer r
+  pub fails-hit-by : (n i : ℕ) {r : Bool} {w : ℕ} → i < n → r ≡ f i → not r ≡ true → failsFrom f (n - i) i ≡ w → i ≡ w
+  fails-hit-by n i h e t inv = fails-hit n i h (sym e ∙ not-true _ t) inv
+
+  pub fails-pass-by : (n i : ℕ) {r : Bool} {w : ℕ} → i < n → r ≡ f i → not r ≡ false → failsFrom f (n - i) i ≡ w
+      → failsFrom f (n - (i + 1)) (i + 1) ≡ w
+  fails-pass-by n i h e t inv = fails-pass n i h (sym e ∙ not-false _ t) inv
 
   pub fails-end : (n i : ℕ) {w : ℕ} → n ≤ i → failsFrom f (n - i) i ≡ w → i ≡ w
   unfolding failsFrom
@@ -147,3 +149,17 @@ module _ (f : ℕ → Bool) where
 
     pub passes-end : (i : ℕ) → i ≡ n → failsFrom f (n - i) i ≡ firstFail f n → passes f n ≡ true
     passes-end i h inv = passes-none .1 (sym (fails-end n i (omega arith) inv) ∙ h)
+
+-- two tests that agree fail first at one place
+fails-alike : (f g : ℕ → Bool) (k i : ℕ) → ((j : ℕ) → j < i + k → f j ≡ g j) → failsFrom f k i ≡ failsFrom g k i
+unfolding failsFrom
+fails-alike f g zero i h = refl
+fails-alike f g (suc k) i h =
+    let r = fails-alike f g k (suc i) (λ j l. h j (omega arith)) in
+    let s = h i (omega arith) in
+    by-answer (f i)
+    (λ e. from-pass f k i e ∙ r ∙ sym (from-pass g k i (sym s ∙ e)))
+    (λ e. from-hit f k i e ∙ sym (from-hit g k i (sym s ∙ e)))
+
+pub first-alike : (f g : ℕ → Bool) (n : ℕ) → ((j : ℕ) → j < n → f j ≡ g j) → firstFail f n ≡ firstFail g n
+first-alike f g n h = fails-alike f g n 0 (λ j l. h j (omega arith))

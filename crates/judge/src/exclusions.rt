@@ -7,6 +7,8 @@ ghost use Rattle.model.specs.None.{noExclusion};
 ghost use Rattle.judge.specs.Places.{firstFail};
 ghost use Rattle.judge.specs.Constraints.{c6, c7};
 ghost use Rattle.judge.specs.Asked.{BothPlaced};
+ghost use Rattle.judge.specs.Parts.{brokenExclusion};
+use crate::Answer;
 use crate::widths::index;
 use crate::widths::member;
 use model::records::Exclusion;
@@ -88,4 +90,22 @@ pub fn shared_cabinet(
         x += 1;
     }
     x
+}
+
+// C6, then C7: the lowest exclusion entry that is broken.
+pub fn broken_exclusion(
+    exclusions: [Exclusion; Sheet::EXCLUSIONS],
+    count: usize,
+    rooms: [Module; Sheet::MODULES],
+    modules: &[u32; Sheet::PARTITIONS],
+) -> Answer
+    requires { ⌜ count ≤ mostExclusions ⌝ }
+    requires { ⌜ ((x : ℕ) → x < count → BothPlaced (now modules) (getD exclusions x noExclusion)) ⌝ }
+    ensures { λ r. ⌜ r ≡ brokenExclusion exclusions count rooms (now (modules .entry)) ⌝ }
+{
+    let six = Answer::broken_at(6, shared_module(exclusions, count, modules), count);
+    if six.number != 0 {
+        return six;
+    }
+    Answer::broken_at(7, shared_cabinet(exclusions, count, rooms, modules), count)
 }

@@ -1,7 +1,7 @@
 // The records of a sheet and a plan, as the tables of document 01 read, each with its limits and the widths of its fields beside it.
 // Delays stand beside the sheet, sixteen rows of sixteen.
 ghost use mathlib.Core.Path.{_≡_};
-ghost use Rattle.model.specs.Limits.{sheetVersion, leastModules, mostModules, leastPartitions, mostPartitions, mostExclusions, mostChains, leastMembers, mostMembers};
+ghost use Rattle.model.specs.Limits.{sheetVersion, leastModules, mostModules, leastPartitions, mostPartitions, mostExclusions, mostChains, leastMembers, mostMembers, longestSheet, longestPlan};
 ghost use Rattle.model.specs.Widths.{versionBits, modulesBits, partitionsBits, exclusionsBits, chainsBits, spareBits, headBits, cabinetBits, memoryBits, mostBits, moduleBits, delayBits, periodBits, budgetBits, partitionBits, partitionNumberBits, kindBits, exclusionBits, limitBits, lengthBits, leadBits, moduleNumberBits, startBits, placementBits};
 ghost use Rattle.model.specs.None.{noSheet, noPlan};
 
@@ -129,6 +129,9 @@ impl Sheet {
 
     pub const DELAY_BITS: usize = 16;
 
+    // The longest sheet, in bytes.
+    pub const BYTES: usize = 2142;
+
     // The sheet of a refusal: zeros.
     pub fn none() -> Sheet
         ensures { λ r. ⌜ r ≡ noSheet ⌝ }
@@ -190,6 +193,9 @@ impl Plan {
     // Module and start of one partition.
     pub const BITS: usize = Plan::MODULE_BITS + Plan::START_BITS;
 
+    // The longest plan, in bytes.
+    pub const BYTES: usize = 160;
+
     // The plan of a refusal: zeros.
     pub fn none() -> Plan
         ensures { λ r. ⌜ r ≡ noPlan ⌝ }
@@ -211,6 +217,8 @@ fn limits_agree()
     ensures { λ _. do ⌜ (← ⟦Sheet::CHAINS⟧ .entry) ≡ mostChains ⌝ }
     ensures { λ _. do ⌜ (← ⟦Chain::FEWEST⟧ .entry) ≡ leastMembers ⌝ }
     ensures { λ _. do ⌜ (← ⟦Chain::MEMBERS⟧ .entry) ≡ mostMembers ⌝ }
+    ensures { λ _. do ⌜ (← ⟦Sheet::BYTES⟧ .entry) ≡ longestSheet ⌝ }
+    ensures { λ _. do ⌜ (← ⟦Plan::BYTES⟧ .entry) ≡ longestPlan ⌝ }
 {}
 
 // Each width is the one that specs/ name.

@@ -1,9 +1,9 @@
 -- The digits of a number by halves: of a power, of `|` and `&`, one added and one taken away; the lowest that is 1; the ones.
 -- Assumes nothing.
-use mathlib.Core.Path.{_≡_, refl, ap, _∙_, sym, subst}
+use mathlib.Core.Path.{_≡_, refl, ap, _∙_, sym}
 use mathlib.Core.Logic.{_≢_}
 use Prim.Native.Nat.{ℕ, zero, suc, _+_, _*_, _-_, _/_, _%_, _^_, _≤_, _<_, max}
-use native.Mathlib.Nat.{div-div-eq-div-mul, pow-succ', div-one, one-mul, mod-lt, div-eq-of-lt, add-div-right, le-div-iff-mul-le, le-trans}
+use native.Mathlib.Nat.{div-div-eq-div-mul, pow-succ', div-one, mod-lt, div-eq-of-lt, add-div-right, le-div-iff-mul-le, le-trans}
 use native.Mathlib.Omega.{arith}
 use lib.Bits.{bitAnd, bitOr, and-step, or-step, or-shr, and-self, or-zero-r}
 use lib.Dec.{lit<}

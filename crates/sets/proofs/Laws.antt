@@ -5,7 +5,7 @@
 use mathlib.Core.Path.{_≡_, refl, ap, _∙_, sym, subst}
 use mathlib.Core.Logic.{_≢_}
 use mathlib.Core.Bool.{Bool, true, false, cond}
-use mathlib.Core.List.{List, [], _∷_}
+use mathlib.Core.List.{[], _∷_}
 use Prim.Native.Nat.{ℕ, zero, suc, _+_, _*_, _-_, _/_, _%_, _^_, _≤_, _<_}
 use native.Mathlib.Nat.{pow-succ', zero-div, le-trans, pos-of-ne-zero}
 use native.Mathlib.Numerals.{add-one}
@@ -16,8 +16,8 @@ use lib.Count.{ones, ones-step, trailingZeros, trailing-of-zero, trailing-le}
 use lib.Dec.{eqb, lit<}
 use lib.Pow.{pow-pos, pow-lt, pow-mono}
 use borrow.Author.Tests.{eqb-true, eqb-false, eq-eqb, ne-eqb}
-use Rattle.sets.specs.Members.{places, member, sumBelow, countBelow, setOf, firstFrom, keptFrom, kept, membersOf, sizeOf, sumOver, lowestOf, withMember, withoutLowest}
-use Rattle.sets.proofs.Digits.{digit, digit-below-two, digit-first, digit-next, digit-above, same-digits, or-kept, or-added, added-is-there, added-elsewhere, power-at-most, taken-is-gone, taken-elsewhere, trailing-below, trailing-is-one, below-trailing, and-takes-lowest}
+use Rattle.sets.specs.Members.{places, member, sumBelow, countBelow, setOf, keptFrom, kept, membersOf, sizeOf, sumOver, lowestOf, withMember, withoutLowest}
+use Rattle.sets.proofs.Digits.{digit, digit-below-two, digit-first, digit-next, digit-above, same-digits, or-kept, or-added, added-is-there, added-elsewhere, taken-is-gone, taken-elsewhere, trailing-below, trailing-is-one, below-trailing, and-takes-lowest}
 use Rattle.sets.proofs.Passing.{sum-at-most, sum-same, sum-first, sum-longer, sum-of-one-more, first-is, first-of-none, kept-same, kept-none, kept-longer, kept-walk}
 
 -- ---- membership and digits

@@ -1,7 +1,7 @@
 -- "A module's partitions are kept as a set in one 64-bit number" (document 01): partition i is in the set x where the bit of weight 2 ^ i is 1.
 -- Sums over the partitions that pass a test, their list in ascending order, and the set of them as a number.
 -- Assumes nothing.
-use mathlib.Core.Bool.{Bool, true, false, cond}
+use mathlib.Core.Bool.{Bool, cond}
 use mathlib.Core.List.{List, [], _∷_}
 use Prim.Native.Nat.{ℕ, zero, suc, _+_, _-_, _/_, _%_, _^_}
 use lib.Dec.{eqb}
