@@ -7,10 +7,10 @@ use lib.ListN.{length, replicate}
 use Rattle.bits.specs.Field.{fieldOf, withBit, putBit, putField}
 use Rattle.lists.specs.Filled.{filled}
 use Rattle.numbers.specs.Numbers.{fine, cutShort, wrongPlan}
-use Rattle.numbers.specs.First.{met, firstMet}
+use Rattle.numbers.specs.First.{met, firstMet, firstOf}
 use Rattle.model.specs.Limits.{longestSheet}
 use Rattle.model.specs.None.{noModule, noPartition, noExclusion, noChain, noPlan}
-use Rattle.model.specs.Rules.{versionRule, countRule, headRule, diagonalRule, partitionRule, exclusionRule, lengthRule, memberRule, membersRule}
+use Rattle.model.specs.Rules.{versionTests, versionRule, countTests, countRule, headRule, diagonalRule, partitionTests, partitionRule, exclusionTests, exclusionRule, lengthTests, lengthRule, memberTests, memberRule, membersRule}
 use Rattle.layout.specs.Layout.{chainAt}
 use Rattle.layout.specs.Values.{sheetOf, delaysOf}
 use Rattle.reader.specs.Number.{short, headNumber, recordRule, recordNumber, partNumber, partsNumber, leadNumber, membersNumber, chainNumber, chainsNumber, endNumber, bodyNumber, sheetNumber, sheetRead}
@@ -33,7 +33,7 @@ cases =
     record { bytes = sheetA ++ (0 ∷ []); number = 17 } ∷ []
 
 pub worked : map (λ (c : Case). sheetNumber (c .bytes)) cases ≡ map (λ (c : Case). c .number) cases
-unfolding cases sheetA fieldOf filled met firstMet versionRule countRule headRule diagonalRule partitionRule exclusionRule lengthRule memberRule membersRule chainAt short headNumber recordRule recordNumber partNumber partsNumber leadNumber membersNumber chainNumber chainsNumber endNumber bodyNumber sheetNumber
+unfolding cases sheetA fieldOf filled met firstMet firstOf versionTests versionRule countTests countRule headRule diagonalRule partitionTests partitionRule exclusionTests exclusionRule lengthTests lengthRule memberTests memberRule membersRule chainAt short headNumber recordRule recordNumber partNumber partsNumber leadNumber membersNumber chainNumber chainsNumber endNumber bodyNumber sheetNumber
 worked = refl
 
 -- ---- sheet A: one module (cabinet 0, memory 100, at most 2); partitions 4/1/10 and 6/1/10 as T/B/memory
@@ -99,5 +99,5 @@ unfolding longSheet times twoPartitions eightExclusions eightChains
 long-sheet-length = refl
 
 pub long-sheet-accepted : sheetNumber longSheet ≡ 0
-unfolding longSheet times twoPartitions eightExclusions eightChains fieldOf filled met firstMet versionRule countRule headRule diagonalRule partitionRule exclusionRule lengthRule memberRule membersRule chainAt short headNumber recordRule recordNumber partNumber partsNumber leadNumber membersNumber chainNumber chainsNumber endNumber bodyNumber sheetNumber
+unfolding longSheet times twoPartitions eightExclusions eightChains fieldOf filled met firstMet firstOf versionTests versionRule countTests countRule headRule diagonalRule partitionTests partitionRule exclusionTests exclusionRule lengthTests lengthRule memberTests memberRule membersRule chainAt short headNumber recordRule recordNumber partNumber partsNumber leadNumber membersNumber chainNumber chainsNumber endNumber bodyNumber sheetNumber
 long-sheet-accepted = refl

@@ -1,4 +1,5 @@
-use Rattle.model.specs.Rules.{lengthRule}
+use Rattle.numbers.specs.First.{firstOf}
+use Rattle.model.specs.Rules.{lengthRule, lengthTests}
 use borrow.Author.Needs.{needs}
 use Rattle.model.proofs.rules.length_rule.Statement.{statement}
 use Rattle.model.proofs.rules.length_rule.Tie as tie
@@ -16,7 +17,7 @@ or-next-requires : tie.Need-or-next-requires
 or-next-requires c κs = search needs
 
 returns : tie.Need-returns
-unfolding lengthRule
+unfolding lengthRule lengthTests firstOf
 returns c = cc
 
 pub length-rule-spec : {M : Type 1} → statement M

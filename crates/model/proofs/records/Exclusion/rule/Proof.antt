@@ -1,4 +1,5 @@
-use Rattle.model.specs.Rules.{exclusionRule}
+use Rattle.numbers.specs.First.{firstOf}
+use Rattle.model.specs.Rules.{exclusionRule, exclusionTests}
 use borrow.Author.Needs.{needs}
 use Rattle.model.proofs.records.Exclusion.rule.Statement.{statement}
 use Rattle.model.proofs.records.Exclusion.rule.Tie as tie
@@ -16,7 +17,7 @@ or-next-requires : tie.Need-or-next-requires
 or-next-requires c κs = search needs
 
 returns : tie.Need-returns
-unfolding exclusionRule
+unfolding exclusionRule exclusionTests firstOf
 returns c = cc
 
 pub rule-spec : {M : Type 1} → statement M

@@ -1,4 +1,5 @@
-use Rattle.model.specs.Rules.{partitionRule}
+use Rattle.numbers.specs.First.{firstOf}
+use Rattle.model.specs.Rules.{partitionRule, partitionTests}
 use borrow.Author.Needs.{needs}
 use Rattle.model.proofs.records.Partition.rule.Statement.{statement}
 use Rattle.model.proofs.records.Partition.rule.Tie as tie
@@ -19,7 +20,7 @@ or-next-requires-2 : tie.Need-or-next-requires-2
 or-next-requires-2 c κs = search needs
 
 returns : tie.Need-returns
-unfolding partitionRule
+unfolding partitionRule partitionTests firstOf
 returns c = cc
 
 pub rule-spec : {M : Type 1} → statement M
