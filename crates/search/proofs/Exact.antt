@@ -1,7 +1,7 @@
 -- The test of soundness is exact, and soundness of a whole plan is acceptance in the judge's own terms: C1 to C8, C2 over all ticks.
 -- Assumes nothing.
 use mathlib.Core.Path.{_≡_, refl, sym, _∙_}
-use mathlib.Core.Bool.{true}
+use mathlib.Core.Bool.{Bool, true, false}
 use mathlib.Core.Logic.{_↔_}
 use mathlib.Core.List.{List}
 use Prim.Native.Nat.{ℕ, zero, suc, _+_, _-_, _<_, _≤_}
@@ -18,9 +18,14 @@ use Rattle.model.specs.declared.records.Sheet.{Sheet}
 use Rattle.overlap.specs.Overlap.{Says}
 use Rattle.judge.specs.Constraints.{at, C1, C2, C3, C4, C5, C6, C7, C8, c1, c2, c3, c4, c5, c6, c7, c8}
 use Rattle.judge.specs.Verdict.{Accepted, exclusionAt, chainAt}
-use Rattle.judge.proofs.Exact.{says-yes, yes-says, c1-says, c2-says, c3-says, c4-says, c5-says, c6-says, c7-says, c8-says}
+use Rattle.judge.proofs.Exact.{says-yes, c1-says, c2-says, c3-says, c4-says, c5-says, c6-says, c7-says, c8-says}
 use Rattle.search.specs.Sound.{Sound, soundAt}
 use Rattle.search.proofs.Passed.{Passed, sound-passed, passed-sound}
+
+-- a test passes where what it says holds
+yes-says : (A : Type 0) (b : Bool) → Says b A → A → b ≡ true
+yes-says A true h a = refl
+yes-says A false h a = absurd (h a)
 
 -- what the columns of a fair sheet hold
 module _ (s : Sheet) (delays : List (List ℕ)) (fair : Fair s delays) where
