@@ -9,3 +9,4 @@ pub mod Judges
 pub mod Gives
 pub mod Tested
 pub mod Laid
+pub mod Answers

@@ -4,7 +4,7 @@ use mathlib.Core.Bool.{Bool, true, false, cond}
 use mathlib.Core.List.{List}
 use Prim.Native.Nat.{ℕ, zero, suc, _+_, _<_}
 use native.Mathlib.Omega.{arith}
-use lib.ListN.{set, getD}
+use lib.ListN.{length, set, getD, length-set}
 use lib.Seq.{getD-set-other}
 use lib.Dec.{leb, ltb}
 use Rattle.tries.specs.Code.{Standing, begun, rounds, attemptOf, searchOf}
@@ -54,3 +54,49 @@ module _ (count modules : ℕ) (width : ℕ → ℕ) (fits : List ℕ → List �
   search-keeps zero j o i l = refl
   search-keeps (suc r) j o i l =
       rounds-keep j _ (λ m. rounds-keep j _ (λ t. attempt-keeps (searchOf count modules width fits limit r (j + 1)) j m t (search-keeps r (j + 1))) (width j) 0) modules 0 o i l
+
+-- ---- and it keeps the lengths of the columns
+record SameLengths (o o′ : Standing) : Type 0 where
+  modules : length (o′ .modules) ≡ length (o .modules)
+  starts : length (o′ .starts) ≡ length (o .starts)
+
+same-lengths : {o : Standing} → SameLengths o o
+same-lengths = record { modules = refl; starts = refl }
+
+rounds-lengths : (f : ℕ → Standing → Standing) → ((i : ℕ) (o : Standing) → SameLengths o (f i o)) → (n i : ℕ) (o : Standing) → SameLengths o (rounds f n i o)
+unfolding rounds
+rounds-lengths f h zero i o = same-lengths
+rounds-lengths f h (suc n) i o = go (o .found) (o .stopped) (h i o) (rounds-lengths f h n (i + 1) (f i o))
+  where
+    go : (c d : Bool) → SameLengths o (f i o) → SameLengths (f i o) (rounds f n (i + 1) (f i o)) → SameLengths o (cond c o (cond d o (rounds f n (i + 1) (f i o))))
+    go true d p q = same-lengths
+    go false true p q = same-lengths
+    go false false p q = record { modules = q .modules ∙ p .modules; starts = q .starts ∙ p .starts }
+
+module _ (count modules : ℕ) (width : ℕ → ℕ) (fits : List ℕ → List ℕ → ℕ → Bool) (limit : ℕ) where
+  attempt-lengths : (next : Standing → Standing) → ((o : Standing) → SameLengths o (next o)) → (j m t : ℕ) (o : Standing)
+      → SameLengths o (attemptOf count modules width fits limit next j m t o)
+  unfolding attemptOf
+  attempt-lengths next h j m t o =
+      go (leb limit (o .tries)) (fits (set (o .modules) j m) (set (o .starts) j t) j) (ltb (j + 1) count) (h placed)
+    where
+      placed : Standing
+      placed = begun (o .tries + 1) (set (o .modules) j m) (set (o .starts) j t)
+
+      go : (c d e : Bool) → SameLengths placed (next placed)
+          → SameLengths o (cond c (record { found = false; stopped = true; tries = o .tries; modules = o .modules; starts = o .starts })
+            (cond d (cond e (next placed) (record { found = true; stopped = false; tries = o .tries + 1; modules = set (o .modules) j m; starts = set (o .starts) j t })) placed))
+      go true d e q = record { modules = refl; starts = refl }
+      go false false e q = record { modules = length-set (o .modules) j m; starts = length-set (o .starts) j t }
+      go false true true q = record { modules = q .modules ∙ length-set (o .modules) j m; starts = q .starts ∙ length-set (o .starts) j t }
+      go false true false q = record { modules = length-set (o .modules) j m; starts = length-set (o .starts) j t }
+
+  pub search-lengths : (r j : ℕ) (o : Standing)
+      → (length (searchOf count modules width fits limit r j o .modules) ≡ length (o .modules)) × (length (searchOf count modules width fits limit r j o .starts) ≡ length (o .starts))
+  unfolding searchOf
+  search-lengths r j o = let l = all r j o in (l .modules, l .starts)
+    where
+      all : (r j : ℕ) (o : Standing) → SameLengths o (searchOf count modules width fits limit r j o)
+      all zero j o = same-lengths
+      all (suc r) j o =
+          rounds-lengths _ (λ m. rounds-lengths _ (λ t. attempt-lengths (searchOf count modules width fits limit r (j + 1)) (all r (j + 1)) j m t) (width j) 0) modules 0 o
