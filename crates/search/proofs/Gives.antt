@@ -1,0 +1,67 @@
+-- The search that the code runs gives the answer of the definition. Assumes nothing.
+use mathlib.Core.Path.{_≡_, refl, sym, _∙_, ap}
+use mathlib.Core.Bool.{Bool, true}
+use mathlib.Core.List.{List}
+use Prim.Native.Nat.{ℕ, suc, _+_, _-_, _<_, _≤_}
+use native.Mathlib.Omega.{arith}
+use native.Mathlib.Numerals.{add-one}
+use lib.ListN.{length}
+use Rattle.model.specs.Limits.{mostPartitions}
+use Rattle.model.specs.Fair.{Fair}
+use Rattle.model.specs.Columns.{periodsOf, budgetsOf, memoriesOf}
+use Rattle.model.specs.declared.records.Sheet.{Sheet}
+use Rattle.judge.specs.Constraints.{at}
+use Rattle.tries.specs.Code.{Standing, begun, searchOf, placed, shown}
+use Rattle.tries.proofs.TwoArrays.{code-answers}
+use Rattle.tries.proofs.Kept.{search-lengths}
+use Rattle.search.specs.Sound.{startsOf, sound, soundAt}
+use Rattle.search.specs.Answer.{answerOf}
+use Rattle.search.specs.Desk.{Desk, desk, deskOf, fitsBy, widthOf, divisorsOf, roomsOf, exclusionsOf, chainsOf, membersOf}
+use Rattle.search.specs.Asked.{Ready}
+use Rattle.search.specs.Standing.{Ran}
+use Rattle.search.proofs.Hereditary.{hereditary, placed-sound}
+use Rattle.search.proofs.Judges.{judges}
+use Rattle.search.proofs.Laid.{fair-laid}
+
+module _ (s : Sheet) (delays : List (List ℕ)) (fair : Fair s delays) where
+  abbrev N : ℕ
+  N = s .head .partitions
+
+  pub search-gives : (limit : ℕ) (ms ts : List ℕ) → N ≤ length ms → N ≤ length ts
+      → shown N (searchOf N (s .head .modules) (startsOf s) (fitsBy (deskOf s delays)) limit N 0 (begun 0 ms ts)) ≡ answerOf s delays limit
+  unfolding answerOf
+  search-gives limit ms ts l k =
+      code-answers N (s .head .modules) (startsOf s) (fitsBy (deskOf s delays)) limit (sound s delays) (hereditary s delays) law ms ts l k
+    where
+      law : (j : ℕ) (ms ts : List ℕ) → j < N → at ms j < s .head .modules → at ts j < startsOf s j → N ≤ length ms → N ≤ length ts
+          → sound s delays (placed j ms ts) ≡ true → fitsBy (deskOf s delays) ms ts j ≡ sound s delays (placed (j + 1) ms ts)
+      law j ms ts h on within l k e =
+          judges s delays fair j ms ts h on within (sym (placed-sound s delays j ms ts (omega arith) (omega arith)) ∙ e)
+          ∙ sym (rw add-one (placed-sound s delays (suc j) ms ts (omega arith) (omega arith)))
+
+  -- ---- the search over arrays that hold the desk
+  module _ {T B memory divisors : List ℕ} {rooms exclusions chains members : List (List ℕ)}
+      (t : T ≡ periodsOf s) (b : B ≡ budgetsOf s) (m : memory ≡ memoriesOf s) (g : divisors ≡ divisorsOf T N)
+      (r : rooms ≡ roomsOf s) (x : exclusions ≡ exclusionsOf s) (c : chains ≡ chainsOf s) (k : members ≡ membersOf s) where
+    abbrev held : Desk
+    held = desk T B memory divisors rooms (s .head .exclusions) exclusions (s .head .chains) chains members delays
+
+    held-is : held ≡ deskOf s delays
+    held-is = rw (g, t, b, m, r, x, c, k)
+
+    -- the search may begin
+    pub begins : (ms : List ℕ) → Ready N (s .head .modules) held ms 0
+    begins ms = rw held-is (record { laid = fair-laid s delays fair; left = fair .head .some-partition; placed = λ i l. absurd (omega arith) })
+
+    -- and gives the answer
+    pub ends : (limit : ℕ) (ms ts : List ℕ) → mostPartitions ≤ length ms → mostPartitions ≤ length ts
+        → (o : Standing) → o ≡ searchOf N (s .head .modules) (widthOf T B) (fitsBy held) limit (N - 0) 0 (begun 0 ms ts) → Ran s delays limit o
+    ends limit ms ts l q o e =
+        let few = fair .head .inside .partitions in
+        let none : N - 0 ≡ N = omega arith in
+        let same = search-lengths N (s .head .modules) (widthOf T B) (fitsBy held) limit (N - 0) 0 (begun 0 ms ts) in
+        rw e (record {
+          answer = rw (none, held-is, t, b) (search-gives limit ms ts (omega arith) (omega arith));
+          modules = omega (arith, same .0);
+          starts = omega (arith, same .1);
+        })

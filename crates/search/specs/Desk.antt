@@ -1,0 +1,145 @@
+-- What the search has at hand: arrays of numbers, made once a search from the sheet, and the test of one try over them.
+-- The contracts of the inner functions speak of these. That after sound placements the test says whether the plan with one more is sound is
+-- proved (proofs/Judges.antt), so nothing here has to be believed. Assumes nothing.
+use mathlib.Core.Bool.{Bool, true, false, cond, not, _&&_, _||_}
+use mathlib.Core.List.{List, [], _∷_}
+use Prim.Native.Nat.{ℕ, zero, suc, _+_, _-_, _*_, _/_, _%_}
+use lib.Dec.{leb, ltb, eqb}
+use lib.ListN.{getD, replicate}
+use Rattle.lists.specs.Filled.{filled}
+use Rattle.euclid.specs.Euclid.{gcdOf}
+use Rattle.overlap.specs.Overlap.{clearBy}
+use Rattle.model.specs.Limits.{mostModules, mostPartitions, mostExclusions, mostChains, mostMembers}
+use Rattle.model.specs.Columns.{periodsOf, budgetsOf, memoriesOf}
+use Rattle.model.specs.declared.records.Chain.{Chain}
+use Rattle.model.specs.declared.records.Exclusion.{Exclusion}
+use Rattle.model.specs.declared.records.Module.{Module}
+use Rattle.model.specs.declared.records.Sheet.{Sheet}
+use Rattle.judge.specs.Places.{passes}
+use Rattle.judge.specs.Constraints.{at, totalOn, hostedOn, chainDelay, moduleAt}
+use Rattle.judge.specs.Verdict.{exclusionAt, chainAt}
+
+-- place k of row i
+abbrev pub cell : List (List ℕ) → ℕ → ℕ → ℕ
+cell rows i k = at (getD rows i []) k
+
+pub record Desk : Type 0 where
+  -- of the partitions: their columns, and the greatest common divisors of the periods of all pairs, 64 to a row
+  pub periods : List ℕ
+  pub budgets : List ℕ
+  pub memories : List ℕ
+  pub divisors : List ℕ
+  -- of each module: the cabinet, the memory and the most partitions
+  pub rooms : List (List ℕ)
+  -- of the exclusions: how many, and of each the kind and the two partitions
+  pub excluded : ℕ
+  pub exclusions : List (List ℕ)
+  -- of the chains: how many, of each the limit, the length and the largest member, and the members
+  pub chained : ℕ
+  pub chains : List (List ℕ)
+  pub members : List (List ℕ)
+  pub delays : List (List ℕ)
+
+abbrev pub desk : (periods budgets memories divisors : List ℕ) (rooms : List (List ℕ)) (excluded : ℕ) (exclusions : List (List ℕ))
+    (chained : ℕ) (chains members delays : List (List ℕ)) → Desk
+desk periods budgets memories divisors rooms excluded exclusions chained chains members delays =
+    record {
+      periods = periods;
+      budgets = budgets;
+      memories = memories;
+      divisors = divisors;
+      rooms = rooms;
+      excluded = excluded;
+      exclusions = exclusions;
+      chained = chained;
+      chains = chains;
+      members = members;
+      delays = delays;
+    }
+
+abbrev pub roomOf : Module → List ℕ
+roomOf m = m .cabinet ∷ m .memory ∷ m .most ∷ []
+
+abbrev pub exclusionRow : Exclusion → List ℕ
+exclusionRow x = x .kind ∷ x .first ∷ x .second ∷ []
+
+-- the largest of the first n members: a chain is complete when it is placed
+unfoldable pub largest : (members : List ℕ) → ℕ → ℕ
+largest members zero = 0
+largest members (suc n) = cond (ltb (largest members n) (at members n)) (at members n) (largest members n)
+
+abbrev pub chainRow : Chain → List ℕ
+chainRow c = c .limit ∷ c .length ∷ largest (c .members) (c .length) ∷ []
+
+-- the divisor of the pair i, j stands at 64 i + j
+abbrev pub pairAt : ℕ → ℕ → ℕ
+pairAt i j = i * mostPartitions + j
+
+unfoldable pub divisorsOf : (periods : List ℕ) → ℕ → List ℕ
+divisorsOf periods n =
+    filled (mostPartitions * mostPartitions) (n * mostPartitions) (λ p. gcdOf (at periods (p / mostPartitions)) (at periods (p % mostPartitions))) 0
+
+unfoldable pub roomsOf : Sheet → List (List ℕ)
+roomsOf s = filled mostModules (s .head .modules) (λ m. roomOf (moduleAt (s .modules) m)) (replicate 3 0)
+
+unfoldable pub exclusionsOf : Sheet → List (List ℕ)
+exclusionsOf s = filled mostExclusions (s .head .exclusions) (λ x. exclusionRow (exclusionAt s x)) (replicate 3 0)
+
+unfoldable pub chainsOf : Sheet → List (List ℕ)
+chainsOf s = filled mostChains (s .head .chains) (λ c. chainRow (chainAt s c)) (replicate 3 0)
+
+unfoldable pub membersOf : Sheet → List (List ℕ)
+membersOf s = filled mostChains (s .head .chains) (λ c. chainAt s c .members) (replicate mostMembers 0)
+
+-- the desk of a sheet
+abbrev pub deskOf : Sheet → (delays : List (List ℕ)) → Desk
+deskOf s delays =
+    desk (periodsOf s) (budgetsOf s) (memoriesOf s) (divisorsOf (periodsOf s) (s .head .partitions)) (roomsOf s) (s .head .exclusions) (exclusionsOf s)
+    (s .head .chains) (chainsOf s) (membersOf s) delays
+
+-- how many starts partition j has: 0 to T - B
+abbrev pub widthOf : (periods budgets : List ℕ) → ℕ → ℕ
+widthOf periods budgets j = at periods j - at budgets j + 1
+
+-- C2 of partitions i and j
+unfoldable pub clearAt : (divisors budgets ms ts : List ℕ) → (j i : ℕ) → Bool
+clearAt divisors budgets ms ts j i =
+    not (eqb (at ms i) (at ms j)) || clearBy (at divisors (pairAt i j)) (at ts i) (at budgets i) (at ts j) (at budgets j)
+
+-- C2 of j with each partition before it
+unfoldable pub clearOf : (divisors budgets ms ts : List ℕ) → ℕ → Bool
+clearOf divisors budgets ms ts j = passes (clearAt divisors budgets ms ts j) j
+
+-- C5 and C4 of the module that j is placed on
+unfoldable pub roomFor : (memories : List ℕ) (rooms : List (List ℕ)) (ms : List ℕ) → ℕ → Bool
+roomFor memories rooms ms j =
+    leb (hostedOn ms (at ms j) (j + 1)) (cell rooms (at ms j) 2)
+    && leb (totalOn memories ms (at ms j) (j + 1)) (cell rooms (at ms j) 1)
+
+-- C6 or C7 of exclusion x, where j is its second partition
+unfoldable pub partedAt : (rooms exclusions : List (List ℕ)) (ms : List ℕ) → (j x : ℕ) → Bool
+partedAt rooms exclusions ms j x =
+    not (eqb (cell exclusions x 2) j)
+    || cond (eqb (cell exclusions x 0) 0)
+    (not (eqb (at ms (cell exclusions x 1)) (at ms j)))
+    (not (eqb (cell rooms (at ms (cell exclusions x 1)) 0) (cell rooms (at ms j) 0)))
+
+unfoldable pub partedOf : (rooms : List (List ℕ)) → ℕ → (exclusions : List (List ℕ)) (ms : List ℕ) → ℕ → Bool
+partedOf rooms excluded exclusions ms j = passes (partedAt rooms exclusions ms j) excluded
+
+-- C8 of chain c, where j is its largest member
+unfoldable pub keptAt : (periods budgets : List ℕ) (chains members delays : List (List ℕ)) (ms : List ℕ) → (j c : ℕ) → Bool
+keptAt periods budgets chains members delays ms j c =
+    not (eqb (cell chains c 2) j)
+    || leb (chainDelay periods budgets delays ms (getD members c []) (cell chains c 1)) (cell chains c 0)
+
+unfoldable pub keptOf : (periods budgets : List ℕ) → ℕ → (chains members delays : List (List ℕ)) (ms : List ℕ) → ℕ → Bool
+keptOf periods budgets chained chains members delays ms j = passes (keptAt periods budgets chains members delays ms j) chained
+
+-- the placement of partition j fits those of the partitions before it
+unfoldable pub fitsBy : Desk → (ms ts : List ℕ) → ℕ → Bool
+fitsBy d ms ts j =
+    clearOf (d .divisors) (d .budgets) ms ts j
+    && (roomFor (d .memories) (d .rooms) ms j
+    && (partedOf (d .rooms) (d .excluded) (d .exclusions) ms j
+    && keptOf (d .periods) (d .budgets) (d .chained) (d .chains) (d .members) (d .delays) ms j))

@@ -1,0 +1,178 @@
+// Going over one partition's placements, and trying one placement. They call each other: the next partition is taken up only from inside a try,
+// and partitions left fall, so calls nest at most 64 partitions deep. Nothing is copied in a try: the plan is two columns behind `&mut`.
+ghost use mathlib.Core.Path.{_≡_};
+ghost use Prim.Native.Nat.{_+_, _-_, _<_};
+ghost use Rattle.tries.specs.Code.{begun, attemptOf, searchOf};
+ghost use Rattle.search.specs.Desk.{desk, widthOf, fitsBy};
+ghost use Rattle.search.specs.Asked.{Ready};
+ghost use Rattle.search.specs.Standing.{standing};
+use crate::desk::Link;
+use crate::desk::Pair;
+use crate::desk::Room;
+use crate::fits::fits;
+use model::records::Chain;
+use model::records::Sheet;
+
+// Where a search ends: with a plan, with the budget spent, or with neither; and the tries made.
+pub struct Outcome {
+    pub found: bool,
+    pub stopped: bool,
+    pub tries: u32,
+}
+
+// Every placement of partition j in turn: by module, then start, ascending.
+pub fn over<'a>(
+    count: usize,
+    hosts: u32,
+    periods: &'a [u32; Sheet::PARTITIONS],
+    budgets: &'a [u32; Sheet::PARTITIONS],
+    memories: &'a [u32; Sheet::PARTITIONS],
+    divisors: &'a [u32; Pair::DIVISORS],
+    rooms: &'a [[u32; Room::PLACES]; Sheet::MODULES],
+    excluded: usize,
+    exclusions: &'a [[u8; Pair::PLACES]; Sheet::EXCLUSIONS],
+    chained: usize,
+    chains: &'a [[u32; Link::PLACES]; Sheet::CHAINS],
+    members: &'a [[u8; Chain::MEMBERS]; Sheet::CHAINS],
+    delays: &'a [[u16; Sheet::MODULES]; Sheet::MODULES],
+    modules: &mut [u32; Sheet::PARTITIONS],
+    starts: &mut [u32; Sheet::PARTITIONS],
+    j: usize,
+    limit: u32,
+    tries: u32,
+) -> Outcome
+    requires { ⌜ Ready count hosts (desk (now periods) (now budgets) (now memories) (now divisors) (now rooms) excluded (now exclusions) chained (now chains) (now members) (now delays)) (now modules) j ⌝ }
+    ensures { λ r. ⌜ standing r (now (modules .exit)) (now (starts .exit)) ≡ searchOf count hosts (widthOf (now (periods .entry)) (now (budgets .entry))) (fitsBy (desk (now (periods .entry)) (now (budgets .entry)) (now (memories .entry)) (now (divisors .entry)) (now (rooms .entry)) excluded (now (exclusions .entry)) chained (now (chains .entry)) (now (members .entry)) (now (delays .entry)))) limit (count - j) j (begun tries (now (modules .entry)) (now (starts .entry))) ⌝ }
+{
+    let last = periods[j] - budgets[j];
+    let mut k = tries;
+    let mut m: u32 = 0;
+    while m < hosts {
+        let mut t: u32 = 0;
+        while t <= last {
+            let o = attempt(
+                count,
+                hosts,
+                periods,
+                budgets,
+                memories,
+                divisors,
+                rooms,
+                excluded,
+                exclusions,
+                chained,
+                chains,
+                members,
+                delays,
+                modules,
+                starts,
+                j,
+                limit,
+                m,
+                t,
+                k,
+            );
+            if o.found {
+                return o;
+            }
+            if o.stopped {
+                return o;
+            }
+            k = o.tries;
+            t += 1;
+        }
+        m += 1;
+    }
+    Outcome {
+        found: false,
+        stopped: false,
+        tries: k,
+    }
+}
+
+// One try: partition j on module m with start t, and where that fits the partitions left.
+fn attempt<'a>(
+    count: usize,
+    hosts: u32,
+    periods: &'a [u32; Sheet::PARTITIONS],
+    budgets: &'a [u32; Sheet::PARTITIONS],
+    memories: &'a [u32; Sheet::PARTITIONS],
+    divisors: &'a [u32; Pair::DIVISORS],
+    rooms: &'a [[u32; Room::PLACES]; Sheet::MODULES],
+    excluded: usize,
+    exclusions: &'a [[u8; Pair::PLACES]; Sheet::EXCLUSIONS],
+    chained: usize,
+    chains: &'a [[u32; Link::PLACES]; Sheet::CHAINS],
+    members: &'a [[u8; Chain::MEMBERS]; Sheet::CHAINS],
+    delays: &'a [[u16; Sheet::MODULES]; Sheet::MODULES],
+    modules: &mut [u32; Sheet::PARTITIONS],
+    starts: &mut [u32; Sheet::PARTITIONS],
+    j: usize,
+    limit: u32,
+    m: u32,
+    t: u32,
+    tries: u32,
+) -> Outcome
+    requires { ⌜ m < hosts ⌝ }
+    requires { ⌜ Ready count hosts (desk (now periods) (now budgets) (now memories) (now divisors) (now rooms) excluded (now exclusions) chained (now chains) (now members) (now delays)) (now modules) j ⌝ }
+    ensures { λ r. ⌜ standing r (now (modules .exit)) (now (starts .exit)) ≡ attemptOf count hosts (widthOf (now (periods .entry)) (now (budgets .entry))) (fitsBy (desk (now (periods .entry)) (now (budgets .entry)) (now (memories .entry)) (now (divisors .entry)) (now (rooms .entry)) excluded (now (exclusions .entry)) chained (now (chains .entry)) (now (members .entry)) (now (delays .entry)))) limit (searchOf count hosts (widthOf (now (periods .entry)) (now (budgets .entry))) (fitsBy (desk (now (periods .entry)) (now (budgets .entry)) (now (memories .entry)) (now (divisors .entry)) (now (rooms .entry)) excluded (now (exclusions .entry)) chained (now (chains .entry)) (now (members .entry)) (now (delays .entry)))) limit (count - (j + 1)) (j + 1)) j m t (begun tries (now (modules .entry)) (now (starts .entry))) ⌝ }
+{
+    if limit <= tries {
+        return Outcome {
+            found: false,
+            stopped: true,
+            tries: tries,
+        };
+    }
+    modules[j] = m;
+    starts[j] = t;
+    if fits(
+        periods,
+        budgets,
+        memories,
+        divisors,
+        rooms,
+        excluded,
+        exclusions,
+        chained,
+        chains,
+        members,
+        delays,
+        modules,
+        starts,
+        j,
+    ) {
+        if j + 1 < count {
+            return over(
+                count,
+                hosts,
+                periods,
+                budgets,
+                memories,
+                divisors,
+                rooms,
+                excluded,
+                exclusions,
+                chained,
+                chains,
+                members,
+                delays,
+                modules,
+                starts,
+                j + 1,
+                limit,
+                tries + 1,
+            );
+        }
+        return Outcome {
+            found: true,
+            stopped: false,
+            tries: tries + 1,
+        };
+    }
+    Outcome {
+        found: false,
+        stopped: false,
+        tries: tries + 1,
+    }
+}

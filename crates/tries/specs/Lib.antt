@@ -1,0 +1,5 @@
+pub mod Tries
+pub mod Order
+pub mod Placements
+pub mod Dfs
+pub mod Code
