@@ -1,3 +1,4 @@
 pub mod JudgeLaws
+pub mod SearchLaws
 pub mod BuildLaws
 pub mod LookLaws

@@ -1,3 +1,4 @@
 pub mod Judged
 pub mod BuiltBytes
+pub mod FoundBytes
 pub mod Looks

@@ -4,7 +4,10 @@ ghost use Rattle.reader.specs.Number.{sheetNumber};
 ghost use Rattle.table.specs.Sound.{tableNumber};
 ghost use Rattle.ghozrembu.specs.Judged.{judgedBytes};
 ghost use Rattle.ghozrembu.specs.BuiltBytes.{builtBytes, bufferBuilt};
+ghost use Rattle.ghozrembu.specs.FoundBytes.{foundBytes, bufferFound};
+ghost use lib.ListN.{length};
 use builder::Built;
+use search::Found;
 use judge::Answer;
 
 #[no_mangle]
@@ -34,4 +37,12 @@ pub extern "C" fn ghozrembu_build(sheet: &[u8], plan: &[u8], m: usize, buffer: &
         × (now (buffer .exit) ≡ bufferBuilt (now (sheet .entry)) (now (plan .entry)) m (now (buffer .entry))) ⌝ }
 {
     crate::building::build(sheet, plan, m, buffer)
+}
+
+#[no_mangle]
+pub extern "C" fn ghozrembu_search(sheet: &[u8], budget: u32, buffer: &mut [u8]) -> Found
+    ensures { λ r. ⌜ (r ≡ foundBytes (now (sheet .entry)) budget (length (now (buffer .entry))))
+        × (now (buffer .exit) ≡ bufferFound (now (sheet .entry)) budget (now (buffer .entry))) ⌝ }
+{
+    crate::searching::search(sheet, budget, buffer)
 }
