@@ -27,14 +27,14 @@ answerIn sheet budget = answerOf (sheetOf sheet) (delaysOf sheet) budget
 unfoldable pub foundBytes : (sheet : List ℕ) → (budget room : ℕ) → Found
 foundBytes sheet budget room =
     elim (eqb (refusalIn sheet room) 0) [
-      true ↦ answered (answerIn sheet budget)
-    | false ↦ record { number = refusalIn sheet room; tries = 0 }
+      | true ↦ answered (answerIn sheet budget)
+      | false ↦ record { number = refusalIn sheet room; tries = 0 }
     ]
 
 -- and what the buffer holds then
 unfoldable pub bufferFound : (sheet : List ℕ) → (budget : ℕ) → (buffer : List ℕ) → List ℕ
 bufferFound sheet budget buffer =
     elim (eqb (refusalIn sheet (length buffer)) 0) [
-      true ↦ written (partitionsIn sheet) (answerIn sheet budget) buffer
-    | false ↦ buffer
+      | true ↦ written (partitionsIn sheet) (answerIn sheet budget) buffer
+      | false ↦ buffer
     ]

@@ -7,8 +7,8 @@ ghost use Rattle.ghozrembu.specs.BuiltBytes.{builtBytes, bufferBuilt};
 ghost use Rattle.ghozrembu.specs.FoundBytes.{foundBytes, bufferFound};
 ghost use lib.ListN.{length};
 use builder::Built;
-use search::Found;
 use judge::Answer;
+use search::Found;
 
 #[no_mangle]
 pub extern "C" fn ghozrembu_sheet_number(sheet: &[u8]) -> u8

@@ -4,6 +4,10 @@
 use model::records::Plan;
 use model::records::Sheet;
 
+fn wide(x: u32) -> u64 {
+    x as u64
+}
+
 // A line for each placement of the plan.
 fn print_plan(plan: Plan, partitions: usize) {
     let modules = plan.modules;
@@ -11,7 +15,7 @@ fn print_plan(plan: Plan, partitions: usize) {
     let mut i = 0;
     while i < partitions {
         if i < Sheet::PARTITIONS {
-            files::print_two(modules[i] as u64, starts[i] as u64);
+            files::print_two(wide(modules[i]), wide(starts[i]));
         }
         i += 1;
     }

@@ -1,6 +1,5 @@
 use mathlib.Core.Path.{_∙_}
 use Rattle.ghozrembu.proofs.SearchLaws.{refused-found, refused-kept, value-found, value-kept}
-
 use borrow.Author.Needs.{needs}
 use Rattle.ghozrembu.proofs.searching.search.Statement.{statement}
 use Rattle.ghozrembu.proofs.searching.search.Tie as tie
