@@ -7,3 +7,4 @@ pub mod Builder
 pub mod Kept
 pub mod Answers
 pub mod Tables
+pub mod SheetA

@@ -56,7 +56,7 @@ wide-requires-2 c κs = search needs
 
 lcm-requires : tie.Need-lcm-requires Inv-loop μ-loop
 lcm-requires c κs = let l = c .before .before .before .before .before .before .loop in
-    ((l .inv .1, omega (arith, c .before .before .before .before .wide .ensures .0, c .before .before .before .if1 .left)), c .wide2 .ensures .1)
+    ((omega (arith, l .inv .1), omega (arith, c .before .before .before .before .wide .ensures .0, c .before .before .before .if1 .left)), c .wide2 .ensures .1)
 
 without-lowest-requires : tie.Need-without-lowest-requires Inv-loop μ-loop
 without-lowest-requires c κs = omega arith
