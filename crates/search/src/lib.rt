@@ -3,8 +3,6 @@
 ghost use mathlib.Core.Path.{_≡_};
 ghost use lib.ListN.{length};
 ghost use Rattle.search.specs.Answer.{foundOf, bufferAfter};
-pub mod desk;
-mod fits;
 pub mod attempts;
 pub mod run;
 use crate::run::Partial;
