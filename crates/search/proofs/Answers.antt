@@ -18,12 +18,12 @@ use Rattle.judge.specs.Constraints.{at}
 use Rattle.tries.specs.Tries.{Answer, found, absent, stopped}
 use Rattle.tries.specs.Code.{Standing, shown, placed}
 use Rattle.tries.proofs.Placements.{pairs-modules, pairs-starts}
-use Rattle.search.specs.Sound.{modulesIn, startsIn}
+use Rattle.sound.specs.Sound.{modulesIn, startsIn}
 use Rattle.search.specs.Answer.{answerOf, answered, written, refusalOf, foundOf, bufferAfter}
 use Rattle.search.specs.Standing.{Ran, nothingPlaced}
 use Rattle.search.specs.declared.run.Partial.{Partial}
 use Rattle.search.specs.declared.Found.{Found}
-use Rattle.search.proofs.Alike.{Alike}
+use Rattle.sound.proofs.Alike.{Alike}
 
 -- the bytes of a plan read the first n placements only
 placements-alike : (ms ts ms′ ts′ bytes : List ℕ) (n : ℕ) → Alike n ms ms′ → Alike n ts ts′ → withPlacements ms ts n bytes ≡ withPlacements ms′ ts′ n bytes

@@ -14,14 +14,14 @@ use Rattle.judge.specs.Constraints.{at}
 use Rattle.tries.specs.Code.{Standing, begun, searchOf, placed, shown}
 use Rattle.tries.proofs.TwoArrays.{code-answers}
 use Rattle.tries.proofs.Kept.{search-lengths}
-use Rattle.search.specs.Sound.{startsOf, sound, soundAt}
+use Rattle.sound.specs.Sound.{startsOf, sound, soundAt}
 use Rattle.search.specs.Answer.{answerOf}
-use Rattle.search.specs.Desk.{Desk, desk, deskOf, fitsBy, widthOf, divisorsOf, roomsOf, exclusionsOf, chainsOf, membersOf}
-use Rattle.search.specs.Asked.{Ready}
+use Rattle.sound.specs.Desk.{Desk, desk, deskOf, fitsBy, widthOf, divisorsOf, roomsOf, exclusionsOf, chainsOf, membersOf}
+use Rattle.sound.specs.Asked.{Ready}
 use Rattle.search.specs.Standing.{Ran}
-use Rattle.search.proofs.Hereditary.{hereditary, placed-sound}
-use Rattle.search.proofs.Judges.{judges}
-use Rattle.search.proofs.Laid.{fair-laid}
+use Rattle.sound.proofs.Hereditary.{hereditary, placed-sound}
+use Rattle.sound.proofs.Judges.{judges}
+use Rattle.sound.proofs.Laid.{fair-laid}
 
 module _ (s : Sheet) (delays : List (List ℕ)) (fair : Fair s delays) where
   abbrev N : ℕ

@@ -1,12 +1,5 @@
-pub mod Passed
-pub mod Alike
-pub mod Hereditary
-pub mod Exact
 pub mod Plans
-pub mod Theorems
-pub mod Tables
-pub mod Judges
 pub mod Gives
-pub mod Tested
-pub mod Laid
 pub mod Answers
+pub mod Theorems
+pub mod Calls

@@ -13,11 +13,11 @@ use Rattle.judge.specs.Constraints.{at}
 use Rattle.judge.specs.Verdict.{Accepted}
 use Rattle.tries.specs.Order.{Over}
 use Rattle.tries.proofs.Placements.{bounds-over}
-use Rattle.search.specs.Sound.{Sound, sound, soundAt, choices, startsOf, modulesIn, startsIn}
+use Rattle.sound.specs.Sound.{Sound, sound, soundAt, choices, startsOf, modulesIn, startsIn}
 use Rattle.search.specs.Answer.{planOf}
-use Rattle.search.proofs.Passed.{sound-passed, passed-sound}
-use Rattle.search.proofs.Alike.{Alike, passed-alike}
-use Rattle.search.proofs.Exact.{sound-exact, sound-accepted, some-period, budget-within}
+use Rattle.sound.proofs.Passed.{sound-passed, passed-sound}
+use Rattle.sound.proofs.Alike.{Alike, passed-alike}
+use Rattle.sound.proofs.Exact.{sound-exact, sound-accepted, some-period, budget-within}
 
 module _ (n : ℕ) (ms ts : List ℕ) where
   abbrev placement : ℕ → ℕ × ℕ

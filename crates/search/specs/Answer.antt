@@ -13,7 +13,7 @@ use Rattle.model.specs.declared.records.Sheet.{Sheet}
 use Rattle.reader.specs.Plan.{planLength, planBytes}
 use Rattle.judge.specs.Constraints.{at}
 use Rattle.tries.specs.Tries.{Answer, found, absent, stopped, answer}
-use Rattle.search.specs.Sound.{choices, sound, modulesIn, startsIn}
+use Rattle.sound.specs.Sound.{choices, sound, modulesIn, startsIn}
 use Rattle.search.specs.declared.Found.{Found}
 
 -- the answer of the search over a sheet, with the number of tries made

@@ -3,13 +3,13 @@
 ghost use mathlib.Core.Path.{_≡_};
 ghost use Prim.Native.Nat.{_+_, _-_, _<_};
 ghost use Rattle.tries.specs.Code.{begun, attemptOf, searchOf};
-ghost use Rattle.search.specs.Desk.{desk, widthOf, fitsBy};
-ghost use Rattle.search.specs.Asked.{Ready};
+ghost use Rattle.sound.specs.Desk.{desk, widthOf, fitsBy};
+ghost use Rattle.sound.specs.Asked.{Ready};
 ghost use Rattle.search.specs.Standing.{standing};
-use crate::desk::Link;
-use crate::desk::Pair;
-use crate::desk::Room;
-use crate::fits::fits;
+use sound::desk::Link;
+use sound::desk::Pair;
+use sound::desk::Room;
+use sound::fits::fits;
 use model::records::Chain;
 use model::records::Sheet;
 

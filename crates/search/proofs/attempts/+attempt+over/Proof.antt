@@ -1,10 +1,10 @@
-use Rattle.search.proofs.Laid.{try-testable, next-ready, among, past}
+use Rattle.sound.proofs.Laid.{try-testable, next-ready, among, past}
 use lib.ListN.{getD}
-use Rattle.search.specs.Desk.{desk, widthOf, fitsBy}
-use Rattle.search.specs.Asked.{Ready, Laid}
+use Rattle.sound.specs.Desk.{desk, widthOf, fitsBy}
+use Rattle.sound.specs.Asked.{Ready, Laid}
 use Rattle.tries.proofs.Tried as tried
 use Rattle.tries.proofs.Going.{Rows, Cols, begin, enter, turn, done, leave, hit, halt}
-use Rattle.search.proofs.Laid.{try-testable, next-ready}
+use Rattle.sound.proofs.Laid.{try-testable, next-ready}
 use native.Mathlib.Omega.{arith}
 use mathlib.Core.Path.{_≡_, refl, sym, _∙_, ap}
 use Prim.Native.Nat.{ℕ, _+_, _-_, _*_, _<_, _≤_}
@@ -16,7 +16,7 @@ use Rattle.search.proofs.attempts.+attempt+over.Lts-attempt as attempt-
 use Rattle.search.proofs.attempts.over.Reads as over
 use Rattle.search.proofs.attempts.over.Kinds as over-kinds
 use Rattle.search.proofs.attempts.+attempt+over.Lts-over as over-lts
-use Rattle.search.proofs.fits.fits.Reads as fits-reads
+use Rattle.sound.proofs.fits.fits.Reads as fits-reads
 use Rattle.search.proofs.attempts.+attempt+over.{statement}
 use Rattle.search.proofs.attempts.+attempt+over.Tie.{close}
 

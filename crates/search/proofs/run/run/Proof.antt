@@ -2,8 +2,8 @@ use mathlib.Core.Path.{_≡_, refl, sym, _∙_, ap}
 use Prim.Native.Nat.{ℕ, _≤_, _<_}
 use native.Mathlib.Omega.{arith}
 use Rattle.model.proofs.Fairness.{number-fair}
-use Rattle.search.specs.Desk.{roomsOf, exclusionsOf, chainsOf, membersOf}
-use Rattle.search.proofs.Exact.{some-period}
+use Rattle.sound.specs.Desk.{roomsOf, exclusionsOf, chainsOf, membersOf}
+use Rattle.sound.proofs.Exact.{some-period}
 use Rattle.search.proofs.Gives.{begins, ends}
 use Rattle.search.proofs.run.run.Statement.{statement}
 use Rattle.search.proofs.run.run.Tie as tie
@@ -13,11 +13,11 @@ use Rattle.model.proofs.columns.budgets.Reads as budgets-reads
 use Rattle.model.proofs.columns.memories.Reads as memories-reads
 use Rattle.model.proofs.columns.periods.Reads as periods-reads
 use Rattle.search.proofs.attempts.over.Reads as over-reads
-use Rattle.search.proofs.desk.chains_of.Reads as chains-of-reads
-use Rattle.search.proofs.desk.divisors_of.Reads as divisors-of-reads
-use Rattle.search.proofs.desk.exclusions_of.Reads as exclusions-of-reads
-use Rattle.search.proofs.desk.members_of.Reads as members-of-reads
-use Rattle.search.proofs.desk.rooms_of.Reads as rooms-of-reads
+use Rattle.sound.proofs.desk.chains_of.Reads as chains-of-reads
+use Rattle.sound.proofs.desk.divisors_of.Reads as divisors-of-reads
+use Rattle.sound.proofs.desk.exclusions_of.Reads as exclusions-of-reads
+use Rattle.sound.proofs.desk.members_of.Reads as members-of-reads
+use Rattle.sound.proofs.desk.rooms_of.Reads as rooms-of-reads
 
 -- src/run.rt:45:13
 periods-requires : tie.Need-periods-requires

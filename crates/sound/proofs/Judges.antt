@@ -1,0 +1,196 @@
+-- After sound placements the code's test of one more says whether the plan with it is sound. Assumes nothing.
+use mathlib.Core.Path.{_≡_, refl, sym, _∙_, ap, ap₂}
+use mathlib.Core.Bool.{Bool, true, false, cond, not, _&&_, _||_, and-true}
+use mathlib.Core.List.{List, [], _∷_}
+use Prim.Native.Nat.{ℕ, zero, suc, _+_, _-_, _<_, _≤_}
+use native.Mathlib.Omega.{arith}
+use native.Mathlib.Decide.{decLt, ℕ-discrete}
+use native.Mathlib.Numerals.{add-one}
+use lib.Dec.{leb, ltb, eqb}
+use lib.ListN.{getD}
+use borrow.Author.Tests.{lt-ltb, ltb-true, le-leb, eq-eqb, ne-eqb, eqb-true}
+use Rattle.euclid.specs.Euclid.{gcdOf}
+use Rattle.overlap.specs.Overlap.{clearBy}
+use Rattle.model.specs.Fair.{Fair}
+use Rattle.model.specs.Columns.{periodsOf, budgetsOf, memoriesOf}
+use Rattle.model.specs.declared.records.Sheet.{Sheet}
+use Rattle.judge.specs.Places.{passes}
+use Rattle.judge.specs.Constraints.{at, isOn, moduleAt, cabinetOf, totalOn, hostedOn, chainDelay, c1, c2, c3, c4, c5, c6, c7, c8}
+use Rattle.judge.specs.Verdict.{exclusionAt, chainAt}
+use Rattle.sound.specs.Sound.{soundAt, startsOf}
+use Rattle.sound.specs.Desk.{cell, deskOf, largest, pairAt, divisorsOf, roomsOf, exclusionsOf, chainsOf, membersOf, clearAt, clearOf, roomFor, partedAt, partedOf, keptAt, keptOf, fitsBy}
+use Rattle.sound.proofs.Passed.{Passed, sound-passed, passed-sound, both, fore, rest, asked, answered, each, all}
+use Rattle.sound.proofs.Hereditary.{same-test, fewer-passed}
+use Rattle.sound.proofs.Exact.{budget-within}
+use Rattle.sound.proofs.Tables.{room-at, exclusion-at, chain-at, members-at, divisor-at, member-at-most, largest-below}
+
+-- what holds of each below j, and of j
+at-last : (P : ℕ → Type 0) (i j : ℕ) → i < suc j → (i < j → P i) → P j → P i
+at-last P i j l f p = go (decLt i j)
+  where
+    go : Dec (i < j) → P i
+    go (yes h) = f h
+    go (no h) = let e : j ≡ i = omega arith in rw e at p
+
+-- a partition on another module adds nothing
+other-total : (column ms : List ℕ) (m j : ℕ) → (at ms j ≡ m → ⊥) → totalOn column ms m (suc j) ≡ totalOn column ms m j
+unfolding totalOn
+other-total column ms m j ne = rw (ne-eqb (at ms j) m ne) (omega arith)
+
+other-hosted : (ms : List ℕ) (m j : ℕ) → (at ms j ≡ m → ⊥) → hostedOn ms m (suc j) ≡ hostedOn ms m j
+unfolding hostedOn
+other-hosted ms m j ne = rw (ne-eqb (at ms j) m ne) (omega arith)
+
+-- a module exclusion or a cabinet exclusion
+one-kind : (kind : ℕ) (a b : Bool) → kind < 2 → cond (eqb kind 0) a b ≡ ((not (eqb kind 0) || a) && (not (eqb kind 1) || b))
+one-kind zero a b h = sym (and-true a)
+one-kind (suc zero) a b h = refl
+one-kind (suc (suc k)) a b h = absurd (omega arith)
+
+module _ (s : Sheet) (delays : List (List ℕ)) (fair : Fair s delays) (ms ts : List ℕ) (j : ℕ) (l : j < s .head .partitions)
+    (below : (i : ℕ) → i < suc j → at ms i < s .head .modules) where
+  abbrev T : List ℕ
+  T = periodsOf s
+
+  abbrev B : List ℕ
+  B = budgetsOf s
+
+  -- what the test tests, constraint by constraint
+  record Fitting : Type 0 where
+    two : (i : ℕ) → i < j → c2 T B ms ts i j ≡ true
+    four : c4 (s .modules) (memoriesOf s) ms (suc j) (at ms j) ≡ true
+    five : c5 (s .modules) ms (suc j) (at ms j) ≡ true
+    six : (x : ℕ) → x < s .head .exclusions → exclusionAt s x .second ≡ j → (c6 ms (exclusionAt s x) && c7 (s .modules) ms (exclusionAt s x)) ≡ true
+    eight : (c : ℕ) → c < s .head .chains → largest (chainAt s c .members) (chainAt s c .length) ≡ j → c8 T B delays ms (chainAt s c) ≡ true
+
+  clear-is : (i : ℕ) → i < j → clearAt (divisorsOf T (s .head .partitions)) B ms ts j i ≡ c2 T B ms ts i j
+  unfolding clearAt c2
+  clear-is i h =
+      let d = divisor-at T (s .head .partitions) i j (fair .head .inside .partitions) (omega arith) (omega (arith, fair .head .inside .partitions)) in
+      ap (λ g. not (eqb (at ms i) (at ms j)) || clearBy g (at ts i) (at B i) (at ts j) (at B j)) d
+
+  room-is : roomFor (memoriesOf s) (roomsOf s) ms j ≡ (c5 (s .modules) ms (suc j) (at ms j) && c4 (s .modules) (memoriesOf s) ms (suc j) (at ms j))
+  unfolding roomFor c4 c5
+  room-is = rw (add-one j, room-at s delays fair (at ms j) (below j (omega arith)))
+
+  parted-is : (x : ℕ) → x < s .head .exclusions → exclusionAt s x .second ≡ j
+      → partedAt (roomsOf s) (exclusionsOf s) ms j x ≡ (c6 ms (exclusionAt s x) && c7 (s .modules) ms (exclusionAt s x))
+  unfolding partedAt c6 c7
+  parted-is x h e =
+      let x-fair = fair .exclusions x h in
+      let first : at ms (exclusionAt s x .first) < s .head .modules = below (exclusionAt s x .first) (omega arith) in
+      rw (exclusion-at s delays fair x h, eq-eqb (exclusionAt s x .second) j e, room-at s delays fair (at ms (exclusionAt s x .first)) first, room-at s delays fair (at ms j) (below j (omega arith)), ← e)
+      (one-kind (exclusionAt s x .kind) _ _ (x-fair .kind))
+
+  kept-is : (c : ℕ) → c < s .head .chains
+      → keptAt T B (chainsOf s) (membersOf s) delays ms j c ≡ (not (eqb (largest (chainAt s c .members) (chainAt s c .length)) j) || c8 T B delays ms (chainAt s c))
+  unfolding keptAt c8
+  kept-is c h = rw (chain-at s delays fair c h, members-at s delays fair c h)
+
+  abbrev clear? : Bool
+  clear? = clearOf (divisorsOf T (s .head .partitions)) B ms ts j
+
+  abbrev room? : Bool
+  room? = roomFor (memoriesOf s) (roomsOf s) ms j
+
+  abbrev parted? : Bool
+  parted? = partedOf (roomsOf s) (s .head .exclusions) (exclusionsOf s) ms j
+
+  abbrev kept? : Bool
+  kept? = keptOf T B (s .head .chains) (chainsOf s) (membersOf s) delays ms j
+
+  abbrev c4? : Bool
+  c4? = c4 (s .modules) (memoriesOf s) ms (suc j) (at ms j)
+
+  abbrev c5? : Bool
+  c5? = c5 (s .modules) ms (suc j) (at ms j)
+
+  fits-fitting : fitsBy (deskOf s delays) ms ts j ≡ true → Fitting
+  unfolding fitsBy clearOf partedOf keptOf
+  fits-fitting e =
+      let e2 = rest clear? (room? && (parted? && kept?)) e in
+      let e3 = rest room? (parted? && kept?) e2 in
+      let room = sym room-is ∙ fore room? (parted? && kept?) e2 in
+      record {
+        two = λ i h. sym (clear-is i h) ∙ each (clearAt (divisorsOf T (s .head .partitions)) B ms ts j) j (fore clear? (room? && (parted? && kept?)) e) i h;
+        four = rest c5? c4? room;
+        five = fore c5? c4? room;
+        six = λ x h q. sym (parted-is x h q) ∙ each (partedAt (roomsOf s) (exclusionsOf s) ms j) (s .head .exclusions) (fore parted? kept? e3) x h;
+        eight = λ c h q. answered (eqb (largest (chainAt s c .members) (chainAt s c .length)) j) (c8 T B delays ms (chainAt s c))
+            (sym (kept-is c h) ∙ each (keptAt T B (chainsOf s) (membersOf s) delays ms j) (s .head .chains) (rest parted? kept? e3) c h) (eq-eqb _ _ q);
+      }
+
+  fitting-fits : Fitting → fitsBy (deskOf s delays) ms ts j ≡ true
+  unfolding fitsBy clearOf partedOf keptOf
+  fitting-fits f =
+      both (all (clearAt (divisorsOf T (s .head .partitions)) B ms ts j) j (λ i h. clear-is i h ∙ f .two i h))
+      (both (room-is ∙ both (f .five) (f .four))
+      (both (all (partedAt (roomsOf s) (exclusionsOf s) ms j) (s .head .exclusions) parts)
+      (all (keptAt T B (chainsOf s) (membersOf s) delays ms j) (s .head .chains)
+      (λ c h. kept-is c h ∙ asked (eqb (largest (chainAt s c .members) (chainAt s c .length)) j) (c8 T B delays ms (chainAt s c)) (λ e. f .eight c h (eqb-true _ _ e))))))
+    where
+      -- an exclusion whose second partition is another says nothing of j
+      parts : (x : ℕ) → x < s .head .exclusions → partedAt (roomsOf s) (exclusionsOf s) ms j x ≡ true
+      parts x h = go (ℕ-discrete (exclusionAt s x .second) j)
+        where
+          go : Dec (exclusionAt s x .second ≡ j) → partedAt (roomsOf s) (exclusionsOf s) ms j x ≡ true
+          go (yes q) = parted-is x h q ∙ f .six x h q
+          go (no q) = unfold partedAt in rw (exclusion-at s delays fair x h, ne-eqb (exclusionAt s x .second) j q)
+
+  module _ (within : at ts j < startsOf s j) where
+    fits-passed : Passed s delays ms ts j → Fitting → Passed s delays ms ts (suc j)
+    unfolding c1 c3
+    fits-passed p f = record {
+      one = λ i h. lt-ltb _ _ (below i h);
+      two = λ i k h g. at-last (λ k. i < k → c2 T B ms ts i k ≡ true) k j g (λ g h. p .two i k h g) (λ h. f .two i h) h;
+      three = λ i h. at-last (λ i. c3 T B ts i ≡ true) i j h (p .three i) (let b = budget-within s delays fair j l in le-leb (at ts j + at B j) (at T j) (omega arith));
+      four = λ m h. memory m h (ℕ-discrete (at ms j) m);
+      five = λ m h. number m h (ℕ-discrete (at ms j) m);
+      six = λ x h g k. at-last (λ k. exclusionAt s x .second ≡ k → c6 ms (exclusionAt s x) ≡ true) (exclusionAt s x .second) j k
+          (λ k e. p .six x h (let x-fair = fair .exclusions x h in omega arith) k)
+          (λ e. fore (c6 ms (exclusionAt s x)) (c7 (s .modules) ms (exclusionAt s x)) (f .six x h e)) refl;
+      seven = λ x h g k. at-last (λ k. exclusionAt s x .second ≡ k → c7 (s .modules) ms (exclusionAt s x) ≡ true) (exclusionAt s x .second) j k
+          (λ k e. p .seven x h (let x-fair = fair .exclusions x h in omega arith) k)
+          (λ e. rest (c6 ms (exclusionAt s x)) (c7 (s .modules) ms (exclusionAt s x)) (f .six x h e)) refl;
+      eight = λ c h g. chain c h g (ℕ-discrete (largest (chainAt s c .members) (chainAt s c .length)) j);
+    }
+      where
+        memory : (m : ℕ) → m < s .head .modules → Dec (at ms j ≡ m) → c4 (s .modules) (memoriesOf s) ms (suc j) m ≡ true
+        memory m h (yes e) = rw e at (f .four)
+        memory m h (no e) = unfold c4 in rw (other-total (memoriesOf s) ms m j e) (p .four m h)
+
+        number : (m : ℕ) → m < s .head .modules → Dec (at ms j ≡ m) → c5 (s .modules) ms (suc j) m ≡ true
+        number m h (yes e) = rw e at (f .five)
+        number m h (no e) = unfold c5 in rw (other-hosted ms m j e) (p .five m h)
+
+        chain : (c : ℕ) → c < s .head .chains → ((i : ℕ) → i < chainAt s c .length → at (chainAt s c .members) i < suc j)
+            → Dec (largest (chainAt s c .members) (chainAt s c .length) ≡ j) → c8 T B delays ms (chainAt s c) ≡ true
+        chain c h g (yes e) = f .eight c h e
+        chain c h g (no e) =
+            let most : largest (chainAt s c .members) (chainAt s c .length) < suc j = largest-below (chainAt s c .members) (chainAt s c .length) (suc j) (omega arith) g in
+            p .eight c h (λ i k. let m = member-at-most (chainAt s c .members) (chainAt s c .length) i k in omega arith)
+
+  passed-fitting : Passed s delays ms ts (suc j) → Fitting
+  passed-fitting p = record {
+    two = λ i h. p .two i j h (omega arith);
+    four = p .four (at ms j) (below j (omega arith));
+    five = p .five (at ms j) (below j (omega arith));
+    six = λ x h e.
+        let x-fair = fair .exclusions x h in
+        both (p .six x h (omega arith) (omega arith)) (p .seven x h (omega arith) (omega arith));
+    eight = λ c h e. p .eight c h (λ i k. let m = member-at-most (chainAt s c .members) (chainAt s c .length) i k in omega arith);
+  }
+
+module _ (s : Sheet) (delays : List (List ℕ)) (fair : Fair s delays) where
+  -- the law of the code's test
+  pub judges : (j : ℕ) (ms ts : List ℕ) → j < s .head .partitions → at ms j < s .head .modules → at ts j < startsOf s j
+      → soundAt s delays ms ts j ≡ true → fitsBy (deskOf s delays) ms ts j ≡ soundAt s delays ms ts (suc j)
+  judges j ms ts l on within e = same-test _ _
+      (λ f. passed-sound s delays ms ts (suc j) (fits-passed s delays fair ms ts j l below within passed (fits-fitting s delays fair ms ts j l below f)))
+      (λ f. fitting-fits s delays fair ms ts j l below (passed-fitting s delays fair ms ts j l below (sound-passed s delays ms ts (suc j) f)))
+    where
+      passed : Passed s delays ms ts j
+      passed = sound-passed s delays ms ts j e
+
+      below : (i : ℕ) → i < suc j → at ms i < s .head .modules
+      below i h = at-last (λ i. at ms i < s .head .modules) i j h (λ h. ltb-true _ _ (unfold c1 in passed .one i h)) on

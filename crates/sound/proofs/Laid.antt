@@ -1,0 +1,79 @@
+-- What the inner functions ask holds: the desk of a fair sheet is laid, and each try can be tested. Assumes nothing.
+use mathlib.Core.Path.{_≡_, refl, sym, _∙_, ap}
+use mathlib.Core.List.{List, []}
+use Prim.Native.Nat.{ℕ, zero, suc, _+_, _-_, _≤_, _<_, _^_}
+use native.Mathlib.Omega.{arith}
+use native.Mathlib.Decide.{decLt, ℕ-discrete}
+use lib.ListN.{length, getD, set, length-set, List·getD-eq-default}
+use lib.Seq.{getD-set-same, getD-set-other, set-out}
+use Rattle.euclid.specs.Euclid.{gcdOf}
+use Rattle.euclid.proofs.Laws.{gcd-at-least-one}
+use Rattle.model.specs.Limits.{mostModules, mostPartitions, mostMembers}
+use Rattle.model.specs.Fair.{Fair}
+use Rattle.model.specs.Columns.{periodsOf, budgetsOf}
+use Rattle.model.specs.declared.records.Sheet.{Sheet}
+use Rattle.judge.specs.Constraints.{at}
+use Rattle.judge.specs.Asked.{Placed, AllPlaced}
+use Rattle.judge.specs.Verdict.{exclusionAt, chainAt}
+use Rattle.sound.specs.Desk.{Desk, deskOf, cell, pairAt}
+use Rattle.sound.specs.Asked.{Divisible, PairPlaced, ChainPlaced, Testable, Laid, Ready}
+use Rattle.sound.proofs.Exact.{some-period, budget-within, period-short}
+use Rattle.sound.proofs.Tables.{exclusion-at, chain-at, members-at, divisor-at, member-at-most}
+
+-- partition j is placed on a module after those before it
+pub placed-too : (ms : List ℕ) (j m hosts : ℕ) → m < hosts → ((i : ℕ) → i < j → at ms i < hosts) → (i : ℕ) → i < j + 1 → at (set ms j m) i < hosts
+placed-too ms j m hosts h p i l = go (ℕ-discrete i j) (decLt j (length ms))
+  where
+    go : Dec (i ≡ j) → Dec (j < length ms) → at (set ms j m) i < hosts
+    go (no e) d = rw (getD-set-other ms j i m 0 e) (p i (omega arith))
+    go (yes e) (yes d) = rw (e, getD-set-same ms j m 0 d) h
+    go (yes e) (no d) = rw (e, set-out ms j m (omega arith), List·getD-eq-default ms 0 {n = j} (omega arith)) (omega arith)
+
+module _ (count hosts : ℕ) (d : Desk) where
+  -- the placement of j can be tested where those up to j are placed
+  pub testable : (ms : List ℕ) (j : ℕ) → Laid count hosts d → j < count → ((i : ℕ) → i < j + 1 → at ms i < hosts) → Testable d ms j
+  testable ms j laid l p = record {
+    here = on j (omega arith);
+    divisors = laid .divisors j l;
+    excluded = laid .excluded;
+    pairs = λ x h e. on (cell (d .exclusions) x 1) (omega (arith, laid .order x h));
+    chained = laid .chained;
+    chains = λ c h e. record { length = laid .lengths c h; placed = λ i k. on (at (getD (d .members) c []) i) (omega (arith, laid .largest c h i k)) };
+  }
+    where
+      on : (i : ℕ) → i < j + 1 → Placed ms i
+      on i h = record { inside = omega (arith, laid .room); on = omega (arith, p i h, laid .modules) }
+
+  module _ (ms : List ℕ) (j m : ℕ) (r : Ready count hosts d ms j) (h : m < hosts) where
+    -- a try of module m for partition j
+    pub try-testable : Testable d (set ms j m) j
+    try-testable = testable (set ms j m) j (r .laid) (r .left) (placed-too ms j m hosts h (r .placed))
+
+    -- and the partition after it
+    pub next-ready : j + 1 < count → Ready count hosts d (set ms j m) (j + 1)
+    next-ready l = record { laid = r .laid; left = l; placed = placed-too ms j m hosts h (r .placed) }
+
+-- the desk of a fair sheet is laid
+pub fair-laid : (s : Sheet) (delays : List (List ℕ)) → Fair s delays → Laid (s .head .partitions) (s .head .modules) (deskOf s delays)
+fair-laid s delays fair = record {
+  room = fair .head .inside .partitions;
+  modules = fair .head .inside .modules;
+  within = budget-within s delays fair;
+  short = period-short s delays fair;
+  divisors = λ j l i h.
+      rw (divisor-at (periodsOf s) (s .head .partitions) i j (fair .head .inside .partitions) (omega arith) (omega (arith, fair .head .inside .partitions)))
+      (gcd-at-least-one (at (periodsOf s) i) (at (periodsOf s) j) (some-period s delays fair i (omega arith)));
+  excluded = fair .head .inside .exclusions;
+  order = λ x l. rw (exclusion-at s delays fair x l) (fair .exclusions x l .order);
+  chained = fair .head .inside .chains;
+  lengths = λ c l. rw (chain-at s delays fair c l) (fair .chains c l .most);
+  largest = λ c l i h. rw (members-at s delays fair c l, chain-at s delays fair c l)
+      (member-at-most (chainAt s c .members) (chainAt s c .length) i (rw (chain-at s delays fair c l) at h));
+}
+
+-- a start up to the last one, and one past it
+pub among : (t last p b : ℕ) → last ≡ p - b → t ≤ last → t < p - b + 1
+among t last p b e h = omega arith
+
+pub past : (t last p b : ℕ) → last ≡ p - b → last < t → p - b + 1 ≤ t
+past t last p b e h = omega arith
