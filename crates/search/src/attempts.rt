@@ -6,12 +6,12 @@ ghost use Rattle.tries.specs.Code.{begun, attemptOf, searchOf};
 ghost use Rattle.sound.specs.Desk.{desk, widthOf, fitsBy};
 ghost use Rattle.sound.specs.Asked.{Ready};
 ghost use Rattle.search.specs.Standing.{standing};
+use model::records::Chain;
+use model::records::Sheet;
 use sound::desk::Link;
 use sound::desk::Pair;
 use sound::desk::Room;
 use sound::fits::fits;
-use model::records::Chain;
-use model::records::Sheet;
 
 // Where a search ends: with a plan, with the budget spent, or with neither; and the tries made.
 pub struct Outcome {

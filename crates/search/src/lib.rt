@@ -3,14 +3,8 @@
 ghost use mathlib.Core.Path.{_≡_};
 ghost use lib.ListN.{length};
 ghost use Rattle.search.specs.Answer.{foundOf, bufferAfter};
-<<<<<<< HEAD
 
 pub mod attempts;
-pub mod desk;
-mod fits;
-=======
-pub mod attempts;
->>>>>>> search
 pub mod run;
 
 use crate::run::Partial;

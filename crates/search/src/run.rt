@@ -7,15 +7,15 @@ ghost use Rattle.model.specs.Decoded.{decodedNumber};
 ghost use Rattle.search.specs.Standing.{standing, nothingPlaced, Ran};
 use crate::attempts::Outcome;
 use crate::attempts::over;
+use model::columns::budgets;
+use model::columns::memories;
+use model::columns::periods;
+use model::records::Sheet;
 use sound::desk::chains_of;
 use sound::desk::divisors_of;
 use sound::desk::exclusions_of;
 use sound::desk::members_of;
 use sound::desk::rooms_of;
-use model::columns::budgets;
-use model::columns::memories;
-use model::columns::periods;
-use model::records::Sheet;
 
 // A partial plan: the module and the start of each placed partition.
 pub struct Partial {
