@@ -33,7 +33,7 @@ module _ (sheet plan : List ℕ) {v : Values} {d : List (List ℕ)} (b : ReadBot
 
   module _ (z : v .number ≡ 0) where
     -- on the values the builder's number is that of the bytes
-    value-number : builtNumber (v .sheet) d (v .plan) m (length buffer) ≡ buildNumber sheet plan m (length buffer)
+    pub value-number : builtNumber (v .sheet) d (v .plan) m (length buffer) ≡ buildNumber sheet plan m (length buffer)
     unfolding builtNumber buildNumber
     value-number = rw (by-values sheet plan b z, b .sheet-is z, b .plan-is z)
 

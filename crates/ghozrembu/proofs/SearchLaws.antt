@@ -24,13 +24,13 @@ same-refusal : (sheet : List ℕ) (room : ℕ) → sheetNumber sheet ≡ 0 → r
 unfolding refusalOf refusalIn
 same-refusal sheet room e = rw (sheet-passes sheet e, e)
 
-found-same : (sheet : List ℕ) (budget room : ℕ) → sheetNumber sheet ≡ 0 → foundOf (sheetOf sheet) (delaysOf sheet) budget room ≡ foundBytes sheet budget room
+pub found-same : (sheet : List ℕ) (budget room : ℕ) → sheetNumber sheet ≡ 0 → foundOf (sheetOf sheet) (delaysOf sheet) budget room ≡ foundBytes sheet budget room
 unfolding foundOf foundBytes
 found-same sheet budget room e =
     ap {B = Found} (λ (k : ℕ). elim (eqb k 0) [ true ↦ answered (answerIn sheet budget) | false ↦ record { number = k; tries = 0 } ])
     (same-refusal sheet room e)
 
-kept-same : (sheet : List ℕ) (budget : ℕ) (buffer : List ℕ) → sheetNumber sheet ≡ 0
+pub kept-same : (sheet : List ℕ) (budget : ℕ) (buffer : List ℕ) → sheetNumber sheet ≡ 0
     → bufferAfter (sheetOf sheet) (delaysOf sheet) budget buffer ≡ bufferFound sheet budget buffer
 unfolding bufferAfter bufferFound
 kept-same sheet budget buffer e =
