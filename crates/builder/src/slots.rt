@@ -3,8 +3,7 @@ ghost use mathlib.Core.Path.{_≡_};
 ghost use mathlib.Core.List.{_++_};
 ghost use Prim.Native.Nat.{_+_, _*_, _≤_};
 ghost use lib.ListN.{length, take, drop};
-ghost use Rattle.table.specs.Layout.{mostFrame, headSize, slotSize, tableBytes};
-ghost use Rattle.table.proofs.Bytes.{partBytes};
+ghost use Rattle.table.specs.Layout.{mostFrame, headSize, slotSize, slotsBytes, tableBytes};
 ghost use Rattle.frames.specs.Frame.{slotsOf};
 ghost use Rattle.frames.specs.Next.{soonest, beyond};
 ghost use Rattle.builder.specs.Parts.{partsOf, nearer};
@@ -68,7 +67,7 @@ fn write_slots(
 )
     requires { ⌜ Ready (now periods) (now budgets) (now starts) set t ⌝ }
     requires { ⌜ headSize + slotSize * t .slots ≤ length (now buffer) ⌝ }
-    ensures { λ _. ⌜ now (buffer .exit) ≡ partBytes (take headSize (now (buffer .entry))) (slotsOf (partsOf (now (periods .entry)) (now (budgets .entry)) (now (starts .entry)) set)) ++ drop (headSize + slotSize * t .slots) (now (buffer .entry)) ⌝ }
+    ensures { λ _. ⌜ now (buffer .exit) ≡ take headSize (now (buffer .entry)) ++ slotsBytes (slotsOf (partsOf (now (periods .entry)) (now (budgets .entry)) (now (starts .entry)) set)) ++ drop (headSize + slotSize * t .slots) (now (buffer .entry)) ⌝ }
 {
     let mut n: u32 = 0;
     let mut i: usize = 0;
