@@ -86,10 +86,10 @@ listed (x ∷ xs) = x .start ∷ x .length ∷ x .partition ∷ listed xs
 abbrev pub given : Case → List ℕ
 given c =
     elim (c .ask) [
-      judge plan ↦ numbersOf (judgedBytes (c .sheet) plan)
-    | search budget ↦ searched (c .sheet) budget
-    | build plan ↦ tableOf (table (c .sheet) plan) .frame ∷ listed (slotsIn (table (c .sheet) plan))
-    | steps plan count ↦ answers (stepped (table (c .sheet) plan)) 0 count
+      | judge plan ↦ numbersOf (judgedBytes (c .sheet) plan)
+      | search budget ↦ searched (c .sheet) budget
+      | build plan ↦ tableOf (table (c .sheet) plan) .frame ∷ listed (slotsIn (table (c .sheet) plan))
+      | steps plan count ↦ answers (stepped (table (c .sheet) plan)) 0 count
     ]
 
 abbrev pub cases : List Case
