@@ -72,7 +72,7 @@ module _ (s : Sheet) (delays : List (List ℕ)) (budget : ℕ) (buffer : List �
   unfolding foundOf bufferAfter
   refused-by x e ne = (
     ap number-only (sym e)
-    ∙ sym (ap {B = Found} (λ c. elim c [ true ↦ answered (answerOf s delays budget) | false ↦ number-only (refusalOf s delays (length buffer)) ]) test),
+        ∙ sym (ap {B = Found} (λ c. elim c [ true ↦ answered (answerOf s delays budget) | false ↦ number-only (refusalOf s delays (length buffer)) ]) test),
     sym (ap {B = List ℕ} (λ c. elim c [ true ↦ written N (answerOf s delays budget) buffer | false ↦ buffer ]) test),
   )
     where
@@ -102,9 +102,9 @@ module _ (s : Sheet) (delays : List (List ℕ)) (budget : ℕ) (buffer : List �
       unfolding foundOf bufferAfter
       searches a q = (
         ap answered is
-        ∙ sym (ap {B = Found} (λ c. elim c [ true ↦ answered (answerOf s delays budget) | false ↦ record { number = refusalOf s delays (length buffer); tries = 0 } ]) test),
+            ∙ sym (ap {B = Found} (λ c. elim c [ true ↦ answered (answerOf s delays budget) | false ↦ record { number = refusalOf s delays (length buffer); tries = 0 } ]) test),
         ap (λ y. written N y buffer) is
-        ∙ sym (ap {B = List ℕ} (λ c. elim c [ true ↦ written N (answerOf s delays budget) buffer | false ↦ buffer ]) test),
+            ∙ sym (ap {B = List ℕ} (λ c. elim c [ true ↦ written N (answerOf s delays budget) buffer | false ↦ buffer ]) test),
       )
         where
           is : a ≡ answerOf s delays budget

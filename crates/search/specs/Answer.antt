@@ -44,14 +44,14 @@ refusalOf s delays room = met (decodedNumber s delays) (broken (ltb room (planLe
 unfoldable pub foundOf : Sheet → (delays : List (List ℕ)) → (budget room : ℕ) → Found
 foundOf s delays budget room =
     elim (eqb (refusalOf s delays room) 0) [
-      true ↦ answered (answerOf s delays budget)
-    | false ↦ record { number = refusalOf s delays room; tries = 0 }
+      | true ↦ answered (answerOf s delays budget)
+      | false ↦ record { number = refusalOf s delays room; tries = 0 }
     ]
 
 -- and what its buffer holds afterwards
 unfoldable pub bufferAfter : Sheet → (delays : List (List ℕ)) → (budget : ℕ) → List ℕ → List ℕ
 bufferAfter s delays budget buffer =
     elim (eqb (refusalOf s delays (length buffer)) 0) [
-      true ↦ written (s .head .partitions) (answerOf s delays budget) buffer
-    | false ↦ buffer
+      | true ↦ written (s .head .partitions) (answerOf s delays budget) buffer
+      | false ↦ buffer
     ]

@@ -3,8 +3,10 @@
 ghost use mathlib.Core.Path.{_≡_};
 ghost use lib.ListN.{length};
 ghost use Rattle.search.specs.Answer.{foundOf, bufferAfter};
+
 pub mod attempts;
 pub mod run;
+
 use crate::run::Partial;
 use crate::run::run;
 use model::decoded::sheet_number;
@@ -20,7 +22,12 @@ pub struct Found {
 }
 
 // The search on decoded values. Found writes the plan at the front of the buffer; all else leaves the buffer alone.
-pub fn search(s: Sheet, d: [[u16; Sheet::MODULES]; Sheet::MODULES], budget: u32, buffer: &mut [u8]) -> Found
+pub fn search(
+    s: Sheet,
+    d: [[u16; Sheet::MODULES]; Sheet::MODULES],
+    budget: u32,
+    buffer: &mut [u8],
+) -> Found
     ensures { λ r. ⌜ r ≡ foundOf s d budget (length (now (buffer .entry))) ⌝ }
     ensures { λ _. ⌜ now (buffer .exit) ≡ bufferAfter s d budget (now (buffer .entry)) ⌝ }
 {

@@ -7,15 +7,15 @@ ghost use Rattle.model.specs.Decoded.{decodedNumber};
 ghost use Rattle.search.specs.Standing.{standing, nothingPlaced, Ran};
 use crate::attempts::Outcome;
 use crate::attempts::over;
+use model::columns::budgets;
+use model::columns::memories;
+use model::columns::periods;
+use model::records::Sheet;
 use sound::desk::chains_of;
 use sound::desk::divisors_of;
 use sound::desk::exclusions_of;
 use sound::desk::members_of;
 use sound::desk::rooms_of;
-use model::columns::budgets;
-use model::columns::memories;
-use model::columns::periods;
-use model::records::Sheet;
 
 // A partial plan: the module and the start of each placed partition.
 pub struct Partial {
@@ -35,7 +35,13 @@ impl Partial {
 }
 
 // The search of a sheet whose number is 0. Where a plan is found it stands in the two columns.
-pub fn run(s: Sheet, d: [[u16; Sheet::MODULES]; Sheet::MODULES], budget: u32, modules: &mut [u32; Sheet::PARTITIONS], starts: &mut [u32; Sheet::PARTITIONS]) -> Outcome
+pub fn run(
+    s: Sheet,
+    d: [[u16; Sheet::MODULES]; Sheet::MODULES],
+    budget: u32,
+    modules: &mut [u32; Sheet::PARTITIONS],
+    starts: &mut [u32; Sheet::PARTITIONS],
+) -> Outcome
     requires { ⌜ decodedNumber s d ≡ 0 ⌝ }
     requires { ⌜ (mostPartitions ≤ length (now modules)) × (mostPartitions ≤ length (now starts)) ⌝ }
     ensures { λ r. ⌜ Ran s d budget (standing r (now (modules .exit)) (now (starts .exit))) ⌝ }
@@ -52,5 +58,25 @@ pub fn run(s: Sheet, d: [[u16; Sheet::MODULES]; Sheet::MODULES], budget: u32, mo
     let exclusions = exclusions_of(pairs, h.exclusions);
     let chains = chains_of(links, h.chains);
     let members = members_of(links, h.chains);
-    over(h.partitions, h.modules as u32, &t, &b, &memory, &divisors, &rooms, h.exclusions, &exclusions, h.chains, &chains, &members, &d, modules, starts, 0, budget, 0)
+    let made: u32 = 0;
+    over(
+        h.partitions,
+        h.modules as u32,
+        &t,
+        &b,
+        &memory,
+        &divisors,
+        &rooms,
+        h.exclusions,
+        &exclusions,
+        h.chains,
+        &chains,
+        &members,
+        &d,
+        modules,
+        starts,
+        0,
+        budget,
+        made,
+    )
 }

@@ -92,7 +92,10 @@ fn room_of(m: Module) -> [u32; Room::PLACES]
 }
 
 // The rows of the first n modules.
-pub fn rooms_of(modules: [Module; Sheet::MODULES], n: usize) -> [[u32; Room::PLACES]; Sheet::MODULES]
+pub fn rooms_of(
+    modules: [Module; Sheet::MODULES],
+    n: usize,
+) -> [[u32; Room::PLACES]; Sheet::MODULES]
     requires { ⌜ n ≤ mostModules ⌝ }
     ensures { λ r. ⌜ r ≡ filled mostModules n (λ (m : ℕ). roomOf (getD modules m noModule)) (replicate 3 0) ⌝ }
 {
@@ -113,7 +116,10 @@ fn exclusion_row(x: Exclusion) -> [u8; Pair::PLACES]
 }
 
 // The rows of the first n exclusions.
-pub fn exclusions_of(exclusions: [Exclusion; Sheet::EXCLUSIONS], n: usize) -> [[u8; Pair::PLACES]; Sheet::EXCLUSIONS]
+pub fn exclusions_of(
+    exclusions: [Exclusion; Sheet::EXCLUSIONS],
+    n: usize,
+) -> [[u8; Pair::PLACES]; Sheet::EXCLUSIONS]
     requires { ⌜ n ≤ mostExclusions ⌝ }
     ensures { λ r. ⌜ r ≡ filled mostExclusions n (λ (x : ℕ). exclusionRow (getD exclusions x noExclusion)) (replicate 3 0) ⌝ }
 {

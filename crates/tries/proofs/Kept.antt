@@ -85,7 +85,7 @@ module _ (count modules : ℕ) (width : ℕ → ℕ) (fits : List ℕ → List �
 
       go : (c d e : Bool) → SameLengths placed (next placed)
           → SameLengths o (cond c (record { found = false; stopped = true; tries = o .tries; modules = o .modules; starts = o .starts })
-            (cond d (cond e (next placed) (record { found = true; stopped = false; tries = o .tries + 1; modules = set (o .modules) j m; starts = set (o .starts) j t })) placed))
+          (cond d (cond e (next placed) (record { found = true; stopped = false; tries = o .tries + 1; modules = set (o .modules) j m; starts = set (o .starts) j t })) placed))
       go true d e q = record { modules = refl; starts = refl }
       go false false e q = record { modules = length-set (o .modules) j m; starts = length-set (o .starts) j t }
       go false true true q = record { modules = q .modules ∙ length-set (o .modules) j m; starts = q .starts ∙ length-set (o .starts) j t }
