@@ -1,11 +1,11 @@
 // Going over one partition's placements, and trying one placement. They call each other: the next partition is taken up only from inside a try,
 // and partitions left fall, so calls nest at most 64 partitions deep. Nothing is copied in a try: the plan is two columns behind `&mut`.
 ghost use mathlib.Core.Path.{_≡_};
-ghost use Prim.Native.Nat.{_+_, _-_, _<_};
-ghost use Rattle.tries.specs.Code.{begun, attemptOf, searchOf};
-ghost use Rattle.sound.specs.Desk.{desk, widthOf, fitsBy};
+ghost use Prim.Native.Nat.{_<_};
+ghost use Rattle.tries.specs.Code.{begun};
+ghost use Rattle.sound.specs.Desk.{desk};
 ghost use Rattle.sound.specs.Asked.{Ready};
-ghost use Rattle.search.specs.Standing.{standing};
+ghost use Rattle.search.specs.Standing.{standing, Searched, Tried};
 use model::records::Chain;
 use model::records::Sheet;
 use sound::desk::Link;
@@ -42,7 +42,7 @@ pub fn over<'a>(
     tries: u32,
 ) -> Outcome
     requires { ⌜ Ready count hosts (desk (now periods) (now budgets) (now memories) (now divisors) (now rooms) excluded (now exclusions) chained (now chains) (now members) (now delays)) (now modules) j ⌝ }
-    ensures { λ r. ⌜ standing r (now (modules .exit)) (now (starts .exit)) ≡ searchOf count hosts (widthOf (now (periods .entry)) (now (budgets .entry))) (fitsBy (desk (now (periods .entry)) (now (budgets .entry)) (now (memories .entry)) (now (divisors .entry)) (now (rooms .entry)) excluded (now (exclusions .entry)) chained (now (chains .entry)) (now (members .entry)) (now (delays .entry)))) limit (count - j) j (begun tries (now (modules .entry)) (now (starts .entry))) ⌝ }
+    ensures { λ r. ⌜ Searched count hosts (desk (now (periods .entry)) (now (budgets .entry)) (now (memories .entry)) (now (divisors .entry)) (now (rooms .entry)) excluded (now (exclusions .entry)) chained (now (chains .entry)) (now (members .entry)) (now (delays .entry))) limit j (begun tries (now (modules .entry)) (now (starts .entry))) (standing r (now (modules .exit)) (now (starts .exit))) ⌝ }
 {
     let last = periods[j] - budgets[j];
     let mut k = tries;
@@ -115,7 +115,7 @@ fn attempt<'a>(
 ) -> Outcome
     requires { ⌜ m < hosts ⌝ }
     requires { ⌜ Ready count hosts (desk (now periods) (now budgets) (now memories) (now divisors) (now rooms) excluded (now exclusions) chained (now chains) (now members) (now delays)) (now modules) j ⌝ }
-    ensures { λ r. ⌜ standing r (now (modules .exit)) (now (starts .exit)) ≡ attemptOf count hosts (widthOf (now (periods .entry)) (now (budgets .entry))) (fitsBy (desk (now (periods .entry)) (now (budgets .entry)) (now (memories .entry)) (now (divisors .entry)) (now (rooms .entry)) excluded (now (exclusions .entry)) chained (now (chains .entry)) (now (members .entry)) (now (delays .entry)))) limit (searchOf count hosts (widthOf (now (periods .entry)) (now (budgets .entry))) (fitsBy (desk (now (periods .entry)) (now (budgets .entry)) (now (memories .entry)) (now (divisors .entry)) (now (rooms .entry)) excluded (now (exclusions .entry)) chained (now (chains .entry)) (now (members .entry)) (now (delays .entry)))) limit (count - (j + 1)) (j + 1)) j m t (begun tries (now (modules .entry)) (now (starts .entry))) ⌝ }
+    ensures { λ r. ⌜ Tried count hosts (desk (now (periods .entry)) (now (budgets .entry)) (now (memories .entry)) (now (divisors .entry)) (now (rooms .entry)) excluded (now (exclusions .entry)) chained (now (chains .entry)) (now (members .entry)) (now (delays .entry))) limit j m t (begun tries (now (modules .entry)) (now (starts .entry))) (standing r (now (modules .exit)) (now (starts .exit))) ⌝ }
 {
     if limit <= tries {
         return Outcome {

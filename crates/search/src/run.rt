@@ -58,6 +58,7 @@ pub fn run(
     let exclusions = exclusions_of(pairs, h.exclusions);
     let chains = chains_of(links, h.chains);
     let members = members_of(links, h.chains);
+    let made: u32 = 0;
     over(
         h.partitions,
         h.modules as u32,
@@ -76,6 +77,6 @@ pub fn run(
         starts,
         0,
         budget,
-        0,
+        made,
     )
 }
