@@ -3,8 +3,8 @@
 // each built table is also written to that prefix followed by the module's number in two digits and `.bin`.
 use table::Table;
 
-// The largest table: 5 + 6 * 1,024 bytes.
-const TABLE_BYTES: usize = Table::HEAD_BYTES + Table::SLOT_BYTES * 1024;
+// The largest table.
+const TABLE_BYTES: usize = Table::HEAD_BYTES + Table::SLOT_BYTES * (Table::SLOTS as usize);
 
 // A line for each slot of a table.
 fn print_slots(table: &[u8], slots: u32) {

@@ -11,6 +11,8 @@ use Rattle.numbers.specs.First.{met, firstMet, firstOf}
 use Rattle.model.specs.Limits.{longestSheet}
 use Rattle.model.specs.None.{noModule, noPartition, noExclusion, noChain, noPlan}
 use Rattle.model.specs.Rules.{versionTests, versionRule, countTests, countRule, headRule, diagonalRule, partitionTests, partitionRule, exclusionTests, exclusionRule, lengthTests, lengthRule, memberTests, memberRule, membersRule}
+use Rattle.model.specs.Decoded.{large, headLarge, moduleLarge, partitionLarge, exclusionLarge, leadLarge, membersLarge, decodedHead, decodedPartition, decodedExclusion, decodedChain, decodedModules, decodedDelays, decodedPartitions, decodedExclusions, decodedChains, decodedNumber}
+use Rattle.model.specs.declared.records.Sheet.{Sheet}
 use Rattle.layout.specs.Layout.{chainAt}
 use Rattle.layout.specs.Values.{sheetOf, delaysOf}
 use Rattle.reader.specs.Number.{short, headNumber, recordRule, recordNumber, partNumber, partsNumber, leadNumber, membersNumber, chainNumber, chainsNumber, endNumber, bodyNumber, sheetNumber}
@@ -51,6 +53,22 @@ sheet-a-reads = refl
 pub delays-a-read : delaysOf sheetA ≡ replicate 16 (replicate 16 0)
 unfolding sheetA delaysOf fieldOf filled
 delays-a-read = refl
+
+-- ---- values past a count are not read: sheet A's values with rubbish behind them, where no rule holds, still have the number 0
+unfoldable pub withRubbish : Sheet
+withRubbish =
+    record {
+      head = record { version = 1; modules = 1; partitions = 2; exclusions = 0; chains = 0; spare = 0 };
+      modules = record { cabinet = 0; memory = 100; most = 2 } ∷ replicate 15 (record { cabinet = 255; memory = 4294967295; most = 255 });
+      partitions = record { period = 4; budget = 1; memory = 10 } ∷ record { period = 6; budget = 1; memory = 10 }
+          ∷ replicate 62 (record { period = 0; budget = 4294967295; memory = 4294967295 });
+      exclusions = replicate 400 (record { kind = 255; first = 9; second = 9 });
+      chains = replicate 32 (record { limit = 4294967295; length = 255; members = replicate 16 255 });
+    }
+
+pub rubbish-not-read : decodedNumber withRubbish ((0 ∷ replicate 15 65535) ∷ replicate 15 (replicate 16 65535)) ≡ 0
+unfolding withRubbish met firstMet firstOf versionTests versionRule countTests countRule headRule diagonalRule partitionTests partitionRule exclusionTests exclusionRule lengthTests lengthRule memberTests memberRule membersRule large headLarge moduleLarge partitionLarge exclusionLarge leadLarge membersLarge decodedHead decodedPartition decodedExclusion decodedChain decodedModules decodedDelays decodedPartitions decodedExclusions decodedChains decodedNumber
+rubbish-not-read = refl
 
 -- ---- plan 00 00 00 00 01 has both on module 0, starts 0 and 1
 pub plan-a-reads : planRead (0 ∷ 0 ∷ 0 ∷ 0 ∷ 1 ∷ []) 2
