@@ -7,11 +7,16 @@ use mathlib.Core.List.{List}
 use lib.Dec.{eqb}
 use lib.ListN.{length}
 use borrow.Author.Tests.{ne-eqb}
-use Prim.Native.Nat.{ℕ, zero, suc}
+use mathlib.Core.Logic.{_⊎_, inl, inr, ⊎-elim, _↔_}
+use Prim.Native.Nat.{ℕ, zero, suc, _<_}
 use native.Mathlib.Omega.{arith}
-use Rattle.numbers.specs.First.{met}
+use Rattle.numbers.specs.First.{met, FirstIs}
 use Rattle.reader.specs.Number.{sheetNumber}
 use Rattle.reader.specs.Plan.{planNumber}
+use Rattle.reader.specs.Tests.{sheetTests, planTests}
+use Rattle.reader.proofs.Exactness.{sheet-number-is, is-sheet-number, plan-number-is, is-plan-number}
+use Rattle.table.specs.Sound.{SoundTable, tableNumber}
+use Rattle.table.proofs.Soundness.{number-sound, sound-number}
 use Rattle.judge.specs.Verdict.{refused, orNext}
 use Rattle.judge.specs.declared.Answer.{Answer}
 use Rattle.judge.proofs.Stages.{or-pass, or-hit}
@@ -93,3 +98,22 @@ pub step-refusal-keeps : (table : List ℕ) (q : Position) → (stepNumber table
     → stepped table q ≡ record { number = stepNumber table q; partition = 0; position = q }
 unfolding stepped
 step-refusal-keeps table q n = refused-step _ q _ n
+
+-- ---- each number exactly under its condition
+-- of two numbers met in order, k is given exactly when the first is k, or the first is 0 and the second is k
+pub met-exactly : (x y k : ℕ) → 0 < k → (met x y ≡ k) ↔ ((x ≡ k) ⊎ ((x ≡ 0) × (y ≡ k)))
+unfolding met
+met-exactly zero y k h = (λ e. inr (refl, e), λ w. ⊎-elim (λ e. absurd (omega arith)) (λ e. e .1) w)
+met-exactly (suc x) y k h = (λ e. inl e, λ w. ⊎-elim (λ e. e) (λ e. absurd (omega (arith, e .0))) w)
+
+-- 10 to 17: k is the first number met among all tests of the sheet in file order
+pub sheet-number-exactly : (sheet : List ℕ) (k : ℕ) → 0 < k → (sheetNumber sheet ≡ k) ↔ FirstIs (sheetTests sheet) k
+sheet-number-exactly sheet k h = (sheet-number-is sheet k h, is-sheet-number sheet k h)
+
+-- 18
+pub plan-number-exactly : (plan : List ℕ) (n k : ℕ) → 0 < k → (planNumber plan n ≡ k) ↔ FirstIs (planTests plan n) k
+plan-number-exactly plan n k h = (plan-number-is plan n k h, is-plan-number plan n k h)
+
+-- 24 of the table test, or else the bytes are a sound table
+pub table-number-exactly : (table : List ℕ) → (tableNumber table ≡ 0) ↔ SoundTable table
+table-number-exactly table = (number-sound table, sound-number table)
