@@ -50,8 +50,13 @@ module _ (s : Sheet) (delays : List (List ℕ)) (fair : Fair s delays) where
     held-is = rw (g, t, b, m, r, x, c, k)
 
     -- the search may begin
-    pub begins : (ms : List ℕ) → Ready N (s .head .modules) held ms 0
-    begins ms = rw held-is (record { laid = fair-laid s delays fair; left = fair .head .some-partition; placed = λ i l. absurd (omega arith) })
+    pub begins : (ms : List ℕ) → mostPartitions ≤ length ms → Ready N (s .head .modules) held ms 0
+    begins ms l = rw held-is (record {
+      laid = fair-laid s delays fair;
+      left = fair .head .some-partition;
+      long = omega (arith, fair .head .inside .partitions);
+      placed = λ i l. absurd (omega arith);
+    })
 
     -- and gives the answer
     pub ends : (limit : ℕ) (ms ts : List ℕ) → mostPartitions ≤ length ms → mostPartitions ≤ length ts
@@ -62,6 +67,6 @@ module _ (s : Sheet) (delays : List (List ℕ)) (fair : Fair s delays) where
         let same = search-lengths N (s .head .modules) (widthOf T B) (fitsBy held) limit (N - 0) 0 (begun 0 ms ts) in
         rw e (record {
           answer = rw (none, held-is, t, b) (search-gives limit ms ts (omega arith) (omega arith));
-          modules = omega (arith, same .0);
-          starts = omega (arith, same .1);
+          modules = omega (arith, same .modules);
+          starts = omega (arith, same .starts);
         })

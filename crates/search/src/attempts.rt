@@ -1,9 +1,12 @@
 // Going over one partition's placements, and trying one placement. They call each other: the next partition is taken up only from inside a try,
-// and partitions left fall, so calls nest at most 64 partitions deep. Nothing is copied in a try: the plan is two columns behind `&mut`.
+// and partitions left fall, so calls nest at most 64 partitions deep. Nothing is copied in a try: the plan is two columns behind `&mut`; what a
+// start does not change (which partitions are on the module, and whether it admits one more) is worked out once for all starts on a module.
 ghost use mathlib.Core.Path.{_≡_};
 ghost use Prim.Native.Nat.{_<_};
+ghost use Rattle.sets.specs.Members.{setOf};
+ghost use Rattle.judge.specs.Constraints.{isOn};
 ghost use Rattle.tries.specs.Code.{begun};
-ghost use Rattle.sound.specs.Desk.{desk};
+ghost use Rattle.sound.specs.Desk.{desk, admitsOn};
 ghost use Rattle.sound.specs.Asked.{Ready};
 ghost use Rattle.search.specs.Standing.{standing, Searched, Tried};
 use model::records::Chain;
@@ -11,13 +14,16 @@ use model::records::Sheet;
 use sound::desk::Link;
 use sound::desk::Pair;
 use sound::desk::Room;
+use sound::fits::admits;
+use sound::fits::beside;
 use sound::fits::fits;
 
-// Where a search ends: with a plan, with the budget spent, or with neither; and the tries made.
+// Where a search ends: with a plan, with the budget spent, or with neither; and the tries made. `tries` stands between the two answers for speed
+// (docs/DECISIONS.md, "The search").
 pub struct Outcome {
     pub found: bool,
-    pub stopped: bool,
     pub tries: u32,
+    pub stopped: bool,
 }
 
 // Every placement of partition j in turn: by module, then start, ascending.
@@ -48,6 +54,8 @@ pub fn over<'a>(
     let mut k = tries;
     let mut m: u32 = 0;
     while m < hosts {
+        let held = beside(modules, m, j);
+        let admitted = admits(memories, rooms, excluded, exclusions, modules, m, held, j);
         let mut t: u32 = 0;
         while t <= last {
             let o = attempt(
@@ -69,6 +77,8 @@ pub fn over<'a>(
                 j,
                 limit,
                 m,
+                held,
+                admitted,
                 t,
                 k,
             );
@@ -90,7 +100,8 @@ pub fn over<'a>(
     }
 }
 
-// One try: partition j on module m with start t, and where that fits the partitions left.
+// One try: partition j on module m with start t, and where that fits the partitions left. `held` are the partitions before j on module m, and
+// `admitted` says whether it admits j.
 fn attempt<'a>(
     count: usize,
     hosts: u32,
@@ -110,10 +121,13 @@ fn attempt<'a>(
     j: usize,
     limit: u32,
     m: u32,
+    held: u64,
+    admitted: bool,
     t: u32,
     tries: u32,
 ) -> Outcome
-    requires { ⌜ m < hosts ⌝ }
+    requires { ⌜ (m < hosts) × (held ≡ setOf (isOn (now modules) m) j) ⌝ }
+    requires { ⌜ admitted ≡ admitsOn (now memories) (now rooms) excluded (now exclusions) (now modules) m j ⌝ }
     requires { ⌜ Ready count hosts (desk (now periods) (now budgets) (now memories) (now divisors) (now rooms) excluded (now exclusions) chained (now chains) (now members) (now delays)) (now modules) j ⌝ }
     ensures { λ r. ⌜ Tried count hosts (desk (now (periods .entry)) (now (budgets .entry)) (now (memories .entry)) (now (divisors .entry)) (now (rooms .entry)) excluded (now (exclusions .entry)) chained (now (chains .entry)) (now (members .entry)) (now (delays .entry))) limit j m t (begun tries (now (modules .entry)) (now (starts .entry))) (standing r (now (modules .exit)) (now (starts .exit))) ⌝ }
 {
@@ -129,17 +143,15 @@ fn attempt<'a>(
     if fits(
         periods,
         budgets,
-        memories,
         divisors,
-        rooms,
-        excluded,
-        exclusions,
         chained,
         chains,
         members,
         delays,
         modules,
         starts,
+        held,
+        admitted,
         j,
     ) {
         if j + 1 < count {

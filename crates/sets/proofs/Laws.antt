@@ -1,22 +1,22 @@
 -- The laws of sets, for whoever walks, sums or builds one.
--- A loop `while left != 0 { let i = lowest(left); ..; left = without_lowest(left); }` visits the members in ascending order: `members-walk` and
--- `sum-walk` are one turn of it, `members-of-empty` and `sum-of-empty` its end, `walk-falls` its measure.
+-- A loop `while left != 0 { let i = lowest(left); ..; left = without_lowest(left); }` visits the members in ascending order: `members-walk`,
+-- `sum-walk` and `each-walk` are one turn of it, `members-of-empty`, `sum-of-empty` and `each-of-empty` its end, `walk-falls` its measure.
 -- Assumes nothing.
 use mathlib.Core.Path.{_≡_, refl, ap, _∙_, sym, subst}
 use mathlib.Core.Logic.{_≢_}
-use mathlib.Core.Bool.{Bool, true, false, cond}
+use mathlib.Core.Bool.{Bool, true, false, cond, _&&_, true≢false}
 use mathlib.Core.List.{[], _∷_}
 use Prim.Native.Nat.{ℕ, zero, suc, _+_, _*_, _-_, _/_, _%_, _^_, _≤_, _<_}
 use native.Mathlib.Nat.{pow-succ', zero-div, le-trans, pos-of-ne-zero}
 use native.Mathlib.Numerals.{add-one}
-use native.Mathlib.Decide.{ℕ-discrete}
+use native.Mathlib.Decide.{ℕ-discrete, decLt}
 use native.Mathlib.Omega.{arith}
 use lib.Bits.{bitAnd, bitOr, or-lt}
 use lib.Count.{ones, ones-step, trailingZeros, trailing-of-zero, trailing-le}
 use lib.Dec.{eqb, lit<}
 use lib.Pow.{pow-pos, pow-lt, pow-mono}
 use borrow.Author.Tests.{eqb-true, eqb-false, eq-eqb, ne-eqb}
-use Rattle.sets.specs.Members.{places, member, sumBelow, countBelow, setOf, keptFrom, kept, membersOf, sizeOf, sumOver, lowestOf, withMember, withoutLowest}
+use Rattle.sets.specs.Members.{places, member, sumBelow, countBelow, setOf, keptFrom, kept, membersOf, every, eachIn, sizeOf, sumOver, lowestOf, withMember, withoutLowest}
 use Rattle.sets.proofs.Digits.{digit, digit-below-two, digit-first, digit-next, digit-above, same-digits, or-kept, or-added, added-is-there, added-elsewhere, taken-is-gone, taken-elsewhere, trailing-below, trailing-is-one, below-trailing, and-takes-lowest}
 use Rattle.sets.proofs.Passing.{sum-at-most, sum-same, sum-first, sum-longer, sum-of-one-more, first-is, first-of-none, kept-same, kept-none, kept-longer, kept-walk}
 
@@ -120,6 +120,13 @@ module _ (x : ℕ) (h : 1 ≤ x) (l : x < 2 ^ places) where
   pub lowest-is-member : member x (lowestOf x) ≡ true
   lowest-is-member = ap (member x) (sym by-zeros) ∙ member-yes x _ (trailing-is-one places x h l)
 
+  pub lowest-within : (n : ℕ) → x < 2 ^ n → lowestOf x < n
+  lowest-within n g = go (decLt (lowestOf x) n)
+    where
+      go : Dec (lowestOf x < n) → lowestOf x < n
+      go (yes i) = i
+      go (no i) = absurd (true≢false (sym lowest-is-member ∙ member-above x n (lowestOf x) g (omega arith)))
+
   -- and nothing below it is
   pub none-below-lowest : (j : ℕ) → j < lowestOf x → member x j ≡ false
   none-below-lowest j g = member-no x j (below-trailing places x j (omega (arith, by-zeros)))
@@ -154,11 +161,31 @@ module _ (x : ℕ) (h : 1 ≤ x) (l : x < 2 ^ places) where
   pub sum-walk : (g : ℕ → ℕ) → sumOver g x ≡ g (lowestOf x) + sumOver g (withoutLowest x)
   sum-walk g = sum-of-one-more places (lowestOf x) (member x) (member (withoutLowest x)) g lowest-below lowest-is-member lowest-goes others-stay
 
+  -- f is asked of the lowest, and then of the others
+  pub each-walk : (f : ℕ → Bool) → eachIn f x ≡ (f (lowestOf x) && eachIn f (withoutLowest x))
+  unfolding every
+  each-walk f = rw (members-walk f)
+
+  -- so a walk that asks f of each answers no where f fails, and goes on where it passes; w is what it answers as a whole
+  module _ (f : ℕ → Bool) {i : ℕ} {r w : Bool} (e : i ≡ lowestOf x) (p : r ≡ f i) (inv : eachIn f x ≡ w) where
+    turn : (f (lowestOf x) && eachIn f (withoutLowest x)) ≡ w
+    turn = sym (each-walk f) ∙ inv
+
+    pub each-hit : r ≡ false → false ≡ w
+    each-hit v = let q : f (lowestOf x) ≡ false = ap f (sym e) ∙ sym p ∙ v in rw q at turn
+
+    pub each-pass : {y : ℕ} → r ≡ true → y ≡ withoutLowest x → eachIn f y ≡ w
+    each-pass v y = let q : f (lowestOf x) ≡ true = ap f (sym e) ∙ sym p ∙ v in ap (eachIn f) y ∙ rw q at turn
+
   pub size-walk : sizeOf x ≡ 1 + sizeOf (withoutLowest x)
   size-walk = sum-walk (λ (i : ℕ). 1)
 
 pub members-of-empty : {A : Type 0} (of : ℕ → A) → membersOf of 0 ≡ []
 members-of-empty of = kept-none of (member 0) 0 places (λ j l. member-of-empty j)
+
+pub each-of-empty : (f : ℕ → Bool) → eachIn f 0 ≡ true
+unfolding every
+each-of-empty f = rw (members-of-empty f)
 
 nothing-to-sum : (g : ℕ → ℕ) (n : ℕ) → sumBelow (member 0) g n ≡ 0
 unfolding sumBelow
@@ -262,6 +289,9 @@ module _ (on : ℕ → Bool) where
       ap (keptFrom (member (setOf on n)) of 0) e
       ∙ kept-longer of (member (setOf on n)) 0 n (places - n) (λ j g. no-member-past n j (omega arith))
       ∙ kept-same of (member (setOf on n)) on 0 n (λ j g f. member-of-set n j (omega arith))
+
+  pub each-of-set : (f : ℕ → Bool) (n : ℕ) → n ≤ places → eachIn f (setOf on n) ≡ every (kept on f n)
+  each-of-set f n l = ap every (members-of-set f n l)
 
   -- and sums over them
   pub sum-of-set : (g : ℕ → ℕ) (n : ℕ) → n ≤ places → sumOver g (setOf on n) ≡ sumBelow on g n

@@ -1,7 +1,7 @@
 -- "A module's partitions are kept as a set in one 64-bit number" (document 01): partition i is in the set x where the bit of weight 2 ^ i is 1.
 -- Sums over the partitions that pass a test, their list in ascending order, and the set of them as a number.
 -- Assumes nothing.
-use mathlib.Core.Bool.{Bool, cond}
+use mathlib.Core.Bool.{Bool, true, cond, _&&_}
 use mathlib.Core.List.{List, [], _∷_}
 use Prim.Native.Nat.{ℕ, zero, suc, _+_, _-_, _/_, _%_, _^_}
 use lib.Dec.{eqb}
@@ -47,6 +47,11 @@ module _ {A : Type 0} where
   abbrev pub membersOf : (ℕ → A) → ℕ → List A
   membersOf of x = keptFrom (member x) of 0 places
 
+-- each answer of a list is yes
+unfoldable pub every : List Bool → Bool
+every [] = true
+every (b ∷ bs) = b && every bs
+
 -- ---- the partitions of a set
 -- how many they are
 abbrev pub sizeOf : ℕ → ℕ
@@ -55,6 +60,10 @@ sizeOf x = countBelow (member x) places
 -- the sum of g i over them
 abbrev pub sumOver : (ℕ → ℕ) → ℕ → ℕ
 sumOver g x = sumBelow (member x) g places
+
+-- each of them passes
+abbrev pub eachIn : (ℕ → Bool) → ℕ → Bool
+eachIn f x = every (membersOf f x)
 
 -- the lowest of them; 64 where there is none
 abbrev pub lowestOf : ℕ → ℕ

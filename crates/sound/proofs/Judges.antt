@@ -18,7 +18,7 @@ use Rattle.judge.specs.Places.{passes}
 use Rattle.judge.specs.Constraints.{at, isOn, moduleAt, cabinetOf, totalOn, hostedOn, chainDelay, c1, c2, c3, c4, c5, c6, c7, c8}
 use Rattle.judge.specs.Verdict.{exclusionAt, chainAt}
 use Rattle.sound.specs.Sound.{soundAt, startsOf}
-use Rattle.sound.specs.Desk.{cell, deskOf, largest, pairAt, divisorsOf, roomsOf, exclusionsOf, chainsOf, membersOf, clearAt, clearOf, roomFor, partedAt, partedOf, keptAt, keptOf, fitsBy}
+use Rattle.sound.specs.Desk.{cell, deskOf, largest, pairAt, divisorsOf, roomsOf, exclusionsOf, chainsOf, membersOf, clearAt, clearOf, roomFor, partedAt, partedOf, admitsOn, keptAt, keptOf, fitsBy}
 use Rattle.sound.proofs.Passed.{Passed, sound-passed, passed-sound, both, fore, rest, asked, answered, each, all}
 use Rattle.sound.proofs.Hereditary.{same-test, fewer-passed}
 use Rattle.sound.proofs.Exact.{budget-within}
@@ -69,12 +69,12 @@ module _ (s : Sheet) (delays : List (List ℕ)) (fair : Fair s delays) (ms ts : 
       let d = divisor-at T (s .head .partitions) i j (fair .head .inside .partitions) (omega arith) (omega (arith, fair .head .inside .partitions)) in
       ap (λ g. not (eqb (at ms i) (at ms j)) || clearBy g (at ts i) (at B i) (at ts j) (at B j)) d
 
-  room-is : roomFor (memoriesOf s) (roomsOf s) ms j ≡ (c5 (s .modules) ms (suc j) (at ms j) && c4 (s .modules) (memoriesOf s) ms (suc j) (at ms j))
-  unfolding roomFor c4 c5
-  room-is = rw (add-one j, room-at s delays fair (at ms j) (below j (omega arith)))
+  room-is : roomFor (memoriesOf s) (roomsOf s) ms (at ms j) j ≡ (c5 (s .modules) ms (suc j) (at ms j) && c4 (s .modules) (memoriesOf s) ms (suc j) (at ms j))
+  unfolding roomFor c4 c5 hostedOn totalOn
+  room-is = rw (eq-eqb (at ms j) (at ms j) refl, room-at s delays fair (at ms j) (below j (omega arith)))
 
   parted-is : (x : ℕ) → x < s .head .exclusions → exclusionAt s x .second ≡ j
-      → partedAt (roomsOf s) (exclusionsOf s) ms j x ≡ (c6 ms (exclusionAt s x) && c7 (s .modules) ms (exclusionAt s x))
+      → partedAt (roomsOf s) (exclusionsOf s) ms (at ms j) j x ≡ (c6 ms (exclusionAt s x) && c7 (s .modules) ms (exclusionAt s x))
   unfolding partedAt c6 c7
   parted-is x h e =
       let x-fair = fair .exclusions x h in
@@ -91,10 +91,10 @@ module _ (s : Sheet) (delays : List (List ℕ)) (fair : Fair s delays) (ms ts : 
   clear? = clearOf (divisorsOf T (s .head .partitions)) B ms ts j
 
   abbrev room? : Bool
-  room? = roomFor (memoriesOf s) (roomsOf s) ms j
+  room? = roomFor (memoriesOf s) (roomsOf s) ms (at ms j) j
 
   abbrev parted? : Bool
-  parted? = partedOf (roomsOf s) (s .head .exclusions) (exclusionsOf s) ms j
+  parted? = partedOf (roomsOf s) (s .head .exclusions) (exclusionsOf s) ms (at ms j) j
 
   abbrev kept? : Bool
   kept? = keptOf T B (s .head .chains) (chainsOf s) (membersOf s) delays ms j
@@ -106,34 +106,33 @@ module _ (s : Sheet) (delays : List (List ℕ)) (fair : Fair s delays) (ms ts : 
   c5? = c5 (s .modules) ms (suc j) (at ms j)
 
   fits-fitting : fitsBy (deskOf s delays) ms ts j ≡ true → Fitting
-  unfolding fitsBy clearOf partedOf keptOf
+  unfolding fitsBy admitsOn clearOf partedOf keptOf
   fits-fitting e =
-      let e2 = rest clear? (room? && (parted? && kept?)) e in
-      let e3 = rest room? (parted? && kept?) e2 in
-      let room = sym room-is ∙ fore room? (parted? && kept?) e2 in
+      let admitted = fore (room? && parted?) (clear? && kept?) e in
+      let later = rest (room? && parted?) (clear? && kept?) e in
+      let room = sym room-is ∙ fore room? parted? admitted in
       record {
-        two = λ i h. sym (clear-is i h) ∙ each (clearAt (divisorsOf T (s .head .partitions)) B ms ts j) j (fore clear? (room? && (parted? && kept?)) e) i h;
+        two = λ i h. sym (clear-is i h) ∙ each (clearAt (divisorsOf T (s .head .partitions)) B ms ts j) j (fore clear? kept? later) i h;
         four = rest c5? c4? room;
         five = fore c5? c4? room;
-        six = λ x h q. sym (parted-is x h q) ∙ each (partedAt (roomsOf s) (exclusionsOf s) ms j) (s .head .exclusions) (fore parted? kept? e3) x h;
+        six = λ x h q. sym (parted-is x h q) ∙ each (partedAt (roomsOf s) (exclusionsOf s) ms (at ms j) j) (s .head .exclusions) (rest room? parted? admitted) x h;
         eight = λ c h q. answered (eqb (largest (chainAt s c .members) (chainAt s c .length)) j) (c8 T B delays ms (chainAt s c))
-            (sym (kept-is c h) ∙ each (keptAt T B (chainsOf s) (membersOf s) delays ms j) (s .head .chains) (rest parted? kept? e3) c h) (eq-eqb _ _ q);
+            (sym (kept-is c h) ∙ each (keptAt T B (chainsOf s) (membersOf s) delays ms j) (s .head .chains) (rest clear? kept? later) c h) (eq-eqb _ _ q);
       }
 
   fitting-fits : Fitting → fitsBy (deskOf s delays) ms ts j ≡ true
-  unfolding fitsBy clearOf partedOf keptOf
+  unfolding fitsBy admitsOn clearOf partedOf keptOf
   fitting-fits f =
-      both (all (clearAt (divisorsOf T (s .head .partitions)) B ms ts j) j (λ i h. clear-is i h ∙ f .two i h))
-      (both (room-is ∙ both (f .five) (f .four))
-      (both (all (partedAt (roomsOf s) (exclusionsOf s) ms j) (s .head .exclusions) parts)
+      both (both (room-is ∙ both (f .five) (f .four)) (all (partedAt (roomsOf s) (exclusionsOf s) ms (at ms j) j) (s .head .exclusions) parts))
+      (both (all (clearAt (divisorsOf T (s .head .partitions)) B ms ts j) j (λ i h. clear-is i h ∙ f .two i h))
       (all (keptAt T B (chainsOf s) (membersOf s) delays ms j) (s .head .chains)
-      (λ c h. kept-is c h ∙ asked (eqb (largest (chainAt s c .members) (chainAt s c .length)) j) (c8 T B delays ms (chainAt s c)) (λ e. f .eight c h (eqb-true _ _ e))))))
+      (λ c h. kept-is c h ∙ asked (eqb (largest (chainAt s c .members) (chainAt s c .length)) j) (c8 T B delays ms (chainAt s c)) (λ e. f .eight c h (eqb-true _ _ e)))))
     where
       -- an exclusion whose second partition is another says nothing of j
-      parts : (x : ℕ) → x < s .head .exclusions → partedAt (roomsOf s) (exclusionsOf s) ms j x ≡ true
+      parts : (x : ℕ) → x < s .head .exclusions → partedAt (roomsOf s) (exclusionsOf s) ms (at ms j) j x ≡ true
       parts x h = go (ℕ-discrete (exclusionAt s x .second) j)
         where
-          go : Dec (exclusionAt s x .second ≡ j) → partedAt (roomsOf s) (exclusionsOf s) ms j x ≡ true
+          go : Dec (exclusionAt s x .second ≡ j) → partedAt (roomsOf s) (exclusionsOf s) ms (at ms j) j x ≡ true
           go (yes q) = parted-is x h q ∙ f .six x h q
           go (no q) = unfold partedAt in rw (exclusion-at s delays fair x h, ne-eqb (exclusionAt s x .second) j q)
 

@@ -1,5 +1,6 @@
 -- What the inner functions ask holds: the desk of a fair sheet is laid, and each try can be tested. Assumes nothing.
 use mathlib.Core.Path.{_≡_, refl, sym, _∙_, ap}
+use mathlib.Core.Bool.{Bool}
 use mathlib.Core.List.{List, []}
 use Prim.Native.Nat.{ℕ, zero, suc, _+_, _-_, _≤_, _<_, _^_}
 use native.Mathlib.Omega.{arith}
@@ -12,11 +13,13 @@ use Rattle.model.specs.Limits.{mostModules, mostPartitions, mostMembers}
 use Rattle.model.specs.Fair.{Fair}
 use Rattle.model.specs.Columns.{periodsOf, budgetsOf}
 use Rattle.model.specs.declared.records.Sheet.{Sheet}
-use Rattle.judge.specs.Constraints.{at}
+use Rattle.sets.specs.Members.{setOf}
+use Rattle.judge.specs.Constraints.{at, isOn}
 use Rattle.judge.specs.Asked.{Placed, AllPlaced}
 use Rattle.judge.specs.Verdict.{exclusionAt, chainAt}
-use Rattle.sound.specs.Desk.{Desk, deskOf, cell, pairAt}
-use Rattle.sound.specs.Asked.{Divisible, PairPlaced, ChainPlaced, Testable, Laid, Ready}
+use Rattle.sound.specs.Desk.{Desk, deskOf, cell, pairAt, admitsOn}
+use Rattle.sound.specs.Asked.{Divisible, PairPlaced, ChainPlaced, Admissible, Testable, Laid, Ready}
+use Rattle.sound.proofs.Alike.{Alike, held-alike, admits-alike}
 use Rattle.sound.proofs.Exact.{some-period, budget-within, period-short}
 use Rattle.sound.proofs.Tables.{exclusion-at, chain-at, members-at, divisor-at, member-at-most}
 
@@ -29,29 +32,68 @@ placed-too ms j m hosts h p i l = go (ℕ-discrete i j) (decLt j (length ms))
     go (yes e) (yes d) = rw (e, getD-set-same ms j m 0 d) h
     go (yes e) (no d) = rw (e, set-out ms j m (omega arith), List·getD-eq-default ms 0 {n = j} (omega arith)) (omega arith)
 
-module _ (count hosts : ℕ) (d : Desk) where
-  -- the placement of j can be tested where those up to j are placed
-  pub testable : (ms : List ℕ) (j : ℕ) → Laid count hosts d → j < count → ((i : ℕ) → i < j + 1 → at ms i < hosts) → Testable d ms j
-  testable ms j laid l p = record {
-    here = on j (omega arith);
-    divisors = laid .divisors j l;
-    excluded = laid .excluded;
-    pairs = λ x h e. on (cell (d .exclusions) x 1) (omega (arith, laid .order x h));
-    chained = laid .chained;
-    chains = λ c h e. record { length = laid .lengths c h; placed = λ i k. on (at (getD (d .members) c []) i) (omega (arith, laid .largest c h i k)) };
+module _ (count hosts : ℕ) (d : Desk) (ms : List ℕ) (j : ℕ) (r : Ready count hosts d ms j) where
+  -- the partitions before j placed as they are, in a column as long
+  pub ready-alike : (ms′ : List ℕ) → length ms′ ≡ length ms → ((i : ℕ) → i < j → at ms′ i ≡ at ms i) → Ready count hosts d ms′ j
+  ready-alike ms′ e same = record {
+    laid = r .laid;
+    left = r .left;
+    long = omega (arith, r .long);
+    placed = λ i l. rw (same i l) (r .placed i l);
   }
-    where
-      on : (i : ℕ) → i < j + 1 → Placed ms i
-      on i h = record { inside = omega (arith, laid .room); on = omega (arith, p i h, laid .modules) }
 
-  module _ (ms : List ℕ) (j m : ℕ) (r : Ready count hosts d ms j) (h : m < hosts) where
-    -- a try of module m for partition j
-    pub try-testable : Testable d (set ms j m) j
-    try-testable = testable (set ms j m) j (r .laid) (r .left) (placed-too ms j m hosts h (r .placed))
+  module _ (m : ℕ) (h : m < hosts) where
+    -- it can be asked whether module m admits partition j
+    pub admissible : Admissible (d .excluded) (d .exclusions) ms m j
+    admissible = record {
+      inside = omega (arith, r .laid .room, r .left);
+      on = omega (arith, r .laid .modules);
+      few = r .laid .excluded;
+      placed = λ x l e.
+          let first : cell (d .exclusions) x 1 < j = omega (arith, r .laid .order x l) in
+          record { inside = omega (arith, r .laid .room, r .left); on = omega (arith, r .placed _ first, r .laid .modules) };
+    }
+
+    -- a try of module m can be tested
+    pub try-testable : Testable (d .divisors) (d .chained) (d .chains) (d .members) (set ms j m) j
+    try-testable = record {
+      inside = omega (arith, r .laid .room, r .left);
+      divisible = r .laid .divisors j (r .left);
+      few = r .laid .chained;
+      placed = λ c l e. record {
+        length = r .laid .lengths c l;
+        placed = λ i k. on (at (getD (d .members) c []) i) (omega (arith, r .laid .largest c l i k));
+      };
+    }
+      where
+        on : (i : ℕ) → i < j + 1 → Placed (set ms j m) i
+        on i k = record {
+          inside = omega (arith, r .laid .room, r .left);
+          on = omega (arith, placed-too ms j m hosts h (r .placed) i k, r .laid .modules);
+        }
 
     -- and the partition after it
     pub next-ready : j + 1 < count → Ready count hosts d (set ms j m) (j + 1)
-    next-ready l = record { laid = r .laid; left = l; placed = placed-too ms j m hosts h (r .placed) }
+    next-ready l = record {
+      laid = r .laid;
+      left = l;
+      long = omega (arith, length-set ms j m, r .long);
+      placed = placed-too ms j m hosts h (r .placed);
+    }
+
+    -- what was asked of module m is what the try asks of partition j's module
+    there : at (set ms j m) j ≡ m
+    there = getD-set-same ms j m 0 (omega (arith, r .long, r .left))
+
+    before : Alike j ms (set ms j m)
+    before i l = sym (getD-set-other ms j i m 0 (λ e. omega arith))
+
+    pub try-held : {held : ℕ} → held ≡ setOf (isOn ms m) j → held ≡ setOf (isOn (set ms j m) (at (set ms j m) j)) j
+    try-held e = rw there (e ∙ held-alike ms (set ms j m) m j before)
+
+    pub try-admitted : {admitted : Bool} → admitted ≡ admitsOn (d .memories) (d .rooms) (d .excluded) (d .exclusions) ms m j
+        → admitted ≡ admitsOn (d .memories) (d .rooms) (d .excluded) (d .exclusions) (set ms j m) (at (set ms j m) j) j
+    try-admitted e = rw there (e ∙ admits-alike ms (set ms j m) m j before _ _ _ _ (r .laid .order))
 
 -- the desk of a fair sheet is laid
 pub fair-laid : (s : Sheet) (delays : List (List ℕ)) → Fair s delays → Laid (s .head .partitions) (s .head .modules) (deskOf s delays)

@@ -3,7 +3,7 @@
 use mathlib.Core.Path.{_≡_}
 use mathlib.Core.List.{List, []}
 use Prim.Native.Nat.{ℕ, _≤_, _<_, _^_}
-use lib.ListN.{getD}
+use lib.ListN.{length, getD}
 use Rattle.model.specs.Limits.{mostModules, mostPartitions, mostExclusions, mostChains, mostMembers}
 use Rattle.model.specs.Widths.{periodBits}
 use Rattle.judge.specs.Constraints.{at}
@@ -23,14 +23,19 @@ pub record ChainPlaced (chains members : List (List ℕ)) (ms : List ℕ) (c : �
   pub length : cell chains c 1 ≤ mostMembers
   pub placed : AllPlaced ms (getD members c []) (cell chains c 1)
 
+-- whether module m admits partition j can be asked
+pub record Admissible (excluded : ℕ) (exclusions : List (List ℕ)) (ms : List ℕ) (m j : ℕ) : Type 0 where
+  pub inside : j < mostPartitions
+  pub on : m < mostModules
+  pub few : excluded ≤ mostExclusions
+  pub placed : (x : ℕ) → x < excluded → PairPlaced exclusions ms j x
+
 -- the placement of partition j can be tested
-pub record Testable (d : Desk) (ms : List ℕ) (j : ℕ) : Type 0 where
-  pub here : Placed ms j
-  pub divisors : Divisible (d .divisors) j
-  pub excluded : d .excluded ≤ mostExclusions
-  pub pairs : (x : ℕ) → x < d .excluded → PairPlaced (d .exclusions) ms j x
-  pub chained : d .chained ≤ mostChains
-  pub chains : (c : ℕ) → c < d .chained → cell (d .chains) c 2 ≡ j → ChainPlaced (d .chains) (d .members) ms c
+pub record Testable (divisors : List ℕ) (chained : ℕ) (chains members : List (List ℕ)) (ms : List ℕ) (j : ℕ) : Type 0 where
+  pub inside : j < mostPartitions
+  pub divisible : Divisible divisors j
+  pub few : chained ≤ mostChains
+  pub placed : (c : ℕ) → c < chained → cell chains c 2 ≡ j → ChainPlaced chains members ms c
 
 -- a desk for `count` partitions on `hosts` modules
 pub record Laid (count hosts : ℕ) (d : Desk) : Type 0 where
@@ -49,4 +54,5 @@ pub record Laid (count hosts : ℕ) (d : Desk) : Type 0 where
 pub record Ready (count hosts : ℕ) (d : Desk) (ms : List ℕ) (j : ℕ) : Type 0 where
   pub laid : Laid count hosts d
   pub left : j < count
+  pub long : count ≤ length ms
   pub placed : (i : ℕ) → i < j → at ms i < hosts

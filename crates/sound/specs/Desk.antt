@@ -7,6 +7,7 @@ use Prim.Native.Nat.{ℕ, zero, suc, _+_, _-_, _*_, _/_, _%_}
 use lib.Dec.{leb, ltb, eqb}
 use lib.ListN.{getD, replicate}
 use Rattle.lists.specs.Filled.{filled}
+use Rattle.sets.specs.Members.{sizeOf, sumOver}
 use Rattle.euclid.specs.Euclid.{gcdOf}
 use Rattle.overlap.specs.Overlap.{clearBy}
 use Rattle.model.specs.Limits.{mostModules, mostPartitions, mostExclusions, mostChains, mostMembers}
@@ -16,7 +17,7 @@ use Rattle.model.specs.declared.records.Exclusion.{Exclusion}
 use Rattle.model.specs.declared.records.Module.{Module}
 use Rattle.model.specs.declared.records.Sheet.{Sheet}
 use Rattle.judge.specs.Places.{passes}
-use Rattle.judge.specs.Constraints.{at, totalOn, hostedOn, chainDelay, moduleAt}
+use Rattle.judge.specs.Constraints.{at, isOn, totalOn, hostedOn, chainDelay, moduleAt}
 use Rattle.judge.specs.Verdict.{exclusionAt, chainAt}
 
 -- place k of row i
@@ -101,31 +102,40 @@ deskOf s delays =
 abbrev pub widthOf : (periods budgets : List ℕ) → ℕ → ℕ
 widthOf periods budgets j = at periods j - at budgets j + 1
 
+-- C2 of partitions i and j, which share a module
+abbrev pub clearWith : (divisors budgets ts : List ℕ) → (j i : ℕ) → Bool
+clearWith divisors budgets ts j i = clearBy (at divisors (pairAt i j)) (at ts i) (at budgets i) (at ts j) (at budgets j)
+
 -- C2 of partitions i and j
 unfoldable pub clearAt : (divisors budgets ms ts : List ℕ) → (j i : ℕ) → Bool
-clearAt divisors budgets ms ts j i =
-    not (eqb (at ms i) (at ms j)) || clearBy (at divisors (pairAt i j)) (at ts i) (at budgets i) (at ts j) (at budgets j)
+clearAt divisors budgets ms ts j i = not (isOn ms (at ms j) i) || clearWith divisors budgets ts j i
 
 -- C2 of j with each partition before it
 unfoldable pub clearOf : (divisors budgets ms ts : List ℕ) → ℕ → Bool
 clearOf divisors budgets ms ts j = passes (clearAt divisors budgets ms ts j) j
 
--- C5 and C4 of the module that j is placed on
-unfoldable pub roomFor : (memories : List ℕ) (rooms : List (List ℕ)) (ms : List ℕ) → ℕ → Bool
-roomFor memories rooms ms j =
-    leb (hostedOn ms (at ms j) (j + 1)) (cell rooms (at ms j) 2)
-    && leb (totalOn memories ms (at ms j) (j + 1)) (cell rooms (at ms j) 1)
+-- C5 and C4 of module m, on which the partitions of a set are
+unfoldable pub roomIn : (memories : List ℕ) (rooms : List (List ℕ)) → (m set : ℕ) → Bool
+roomIn memories rooms m set = leb (sizeOf set) (cell rooms m 2) && leb (sumOver (at memories) set) (cell rooms m 1)
 
--- C6 or C7 of exclusion x, where j is its second partition
-unfoldable pub partedAt : (rooms exclusions : List (List ℕ)) (ms : List ℕ) → (j x : ℕ) → Bool
-partedAt rooms exclusions ms j x =
+-- and with partition j on it beside those before j
+unfoldable pub roomFor : (memories : List ℕ) (rooms : List (List ℕ)) (ms : List ℕ) → (m j : ℕ) → Bool
+roomFor memories rooms ms m j = leb (hostedOn ms m j + 1) (cell rooms m 2) && leb (totalOn memories ms m j + at memories j) (cell rooms m 1)
+
+-- C6 or C7 of exclusion x, where j is its second partition and is on module m
+unfoldable pub partedAt : (rooms exclusions : List (List ℕ)) (ms : List ℕ) → (m j x : ℕ) → Bool
+partedAt rooms exclusions ms m j x =
     not (eqb (cell exclusions x 2) j)
     || cond (eqb (cell exclusions x 0) 0)
-    (not (eqb (at ms (cell exclusions x 1)) (at ms j)))
-    (not (eqb (cell rooms (at ms (cell exclusions x 1)) 0) (cell rooms (at ms j) 0)))
+    (not (eqb (at ms (cell exclusions x 1)) m))
+    (not (eqb (cell rooms (at ms (cell exclusions x 1)) 0) (cell rooms m 0)))
 
-unfoldable pub partedOf : (rooms : List (List ℕ)) → ℕ → (exclusions : List (List ℕ)) (ms : List ℕ) → ℕ → Bool
-partedOf rooms excluded exclusions ms j = passes (partedAt rooms exclusions ms j) excluded
+unfoldable pub partedOf : (rooms : List (List ℕ)) → ℕ → (exclusions : List (List ℕ)) (ms : List ℕ) → (m j : ℕ) → Bool
+partedOf rooms excluded exclusions ms m j = passes (partedAt rooms exclusions ms m j) excluded
+
+-- module m admits partition j, whatever its start
+unfoldable pub admitsOn : (memories : List ℕ) (rooms : List (List ℕ)) → ℕ → (exclusions : List (List ℕ)) (ms : List ℕ) → (m j : ℕ) → Bool
+admitsOn memories rooms excluded exclusions ms m j = roomFor memories rooms ms m j && partedOf rooms excluded exclusions ms m j
 
 -- C8 of chain c, where j is its largest member
 unfoldable pub keptAt : (periods budgets : List ℕ) (chains members delays : List (List ℕ)) (ms : List ℕ) → (j c : ℕ) → Bool
@@ -139,7 +149,6 @@ keptOf periods budgets chained chains members delays ms j = passes (keptAt perio
 -- the placement of partition j fits those of the partitions before it
 unfoldable pub fitsBy : Desk → (ms ts : List ℕ) → ℕ → Bool
 fitsBy d ms ts j =
-    clearOf (d .divisors) (d .budgets) ms ts j
-    && (roomFor (d .memories) (d .rooms) ms j
-    && (partedOf (d .rooms) (d .excluded) (d .exclusions) ms j
-    && keptOf (d .periods) (d .budgets) (d .chained) (d .chains) (d .members) (d .delays) ms j))
+    admitsOn (d .memories) (d .rooms) (d .excluded) (d .exclusions) ms (at ms j) j
+    && (clearOf (d .divisors) (d .budgets) ms ts j
+    && keptOf (d .periods) (d .budgets) (d .chained) (d .chains) (d .members) (d .delays) ms j)

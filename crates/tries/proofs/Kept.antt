@@ -56,9 +56,9 @@ module _ (count modules : ℕ) (width : ℕ → ℕ) (fits : List ℕ → List �
       rounds-keep j _ (λ m. rounds-keep j _ (λ t. attempt-keeps (searchOf count modules width fits limit r (j + 1)) j m t (search-keeps r (j + 1))) (width j) 0) modules 0 o i l
 
 -- ---- and it keeps the lengths of the columns
-record SameLengths (o o′ : Standing) : Type 0 where
-  modules : length (o′ .modules) ≡ length (o .modules)
-  starts : length (o′ .starts) ≡ length (o .starts)
+pub record SameLengths (o o′ : Standing) : Type 0 where
+  pub modules : length (o′ .modules) ≡ length (o .modules)
+  pub starts : length (o′ .starts) ≡ length (o .starts)
 
 same-lengths : {o : Standing} → SameLengths o o
 same-lengths = record { modules = refl; starts = refl }
@@ -74,7 +74,7 @@ rounds-lengths f h (suc n) i o = go (o .found) (o .stopped) (h i o) (rounds-leng
     go false false p q = record { modules = q .modules ∙ p .modules; starts = q .starts ∙ p .starts }
 
 module _ (count modules : ℕ) (width : ℕ → ℕ) (fits : List ℕ → List ℕ → ℕ → Bool) (limit : ℕ) where
-  attempt-lengths : (next : Standing → Standing) → ((o : Standing) → SameLengths o (next o)) → (j m t : ℕ) (o : Standing)
+  pub attempt-lengths : (next : Standing → Standing) → ((o : Standing) → SameLengths o (next o)) → (j m t : ℕ) (o : Standing)
       → SameLengths o (attemptOf count modules width fits limit next j m t o)
   unfolding attemptOf
   attempt-lengths next h j m t o =
@@ -91,12 +91,8 @@ module _ (count modules : ℕ) (width : ℕ → ℕ) (fits : List ℕ → List �
       go false true true q = record { modules = q .modules ∙ length-set (o .modules) j m; starts = q .starts ∙ length-set (o .starts) j t }
       go false true false q = record { modules = length-set (o .modules) j m; starts = length-set (o .starts) j t }
 
-  pub search-lengths : (r j : ℕ) (o : Standing)
-      → (length (searchOf count modules width fits limit r j o .modules) ≡ length (o .modules)) × (length (searchOf count modules width fits limit r j o .starts) ≡ length (o .starts))
+  pub search-lengths : (r j : ℕ) (o : Standing) → SameLengths o (searchOf count modules width fits limit r j o)
   unfolding searchOf
-  search-lengths r j o = let l = all r j o in (l .modules, l .starts)
-    where
-      all : (r j : ℕ) (o : Standing) → SameLengths o (searchOf count modules width fits limit r j o)
-      all zero j o = same-lengths
-      all (suc r) j o =
-          rounds-lengths _ (λ m. rounds-lengths _ (λ t. attempt-lengths (searchOf count modules width fits limit r (j + 1)) (all r (j + 1)) j m t) (width j) 0) modules 0 o
+  search-lengths zero j o = same-lengths
+  search-lengths (suc r) j o =
+      rounds-lengths _ (λ m. rounds-lengths _ (λ t. attempt-lengths (searchOf count modules width fits limit r (j + 1)) (search-lengths r (j + 1)) j m t) (width j) 0) modules 0 o

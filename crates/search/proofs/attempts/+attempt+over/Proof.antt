@@ -1,13 +1,15 @@
-use Rattle.sound.proofs.Laid.{try-testable, next-ready, among, past}
-use lib.ListN.{getD}
-use Rattle.sound.specs.Desk.{desk, widthOf, fitsBy}
-use Rattle.sound.specs.Asked.{Ready, Laid}
-use Rattle.tries.proofs.Tried as tried
-use Rattle.tries.proofs.Going.{Rows, Cols, begin, enter, turn, done, leave, hit, halt}
-use Rattle.sound.proofs.Laid.{try-testable, next-ready}
-use native.Mathlib.Omega.{arith}
 use mathlib.Core.Path.{_≡_, refl, sym, _∙_, ap}
 use Prim.Native.Nat.{ℕ, _+_, _-_, _*_, _<_, _≤_}
+use native.Mathlib.Omega.{arith}
+use lib.ListN.{getD}
+use Rattle.sets.specs.Members.{setOf}
+use Rattle.judge.specs.Constraints.{isOn}
+use Rattle.tries.proofs.Tried as tried
+use Rattle.tries.proofs.Going.{Rows, Cols, begin, enter, turn, done, leave, hit, halt}
+use Rattle.sound.specs.Desk.{desk, widthOf, fitsBy, admitsOn}
+use Rattle.sound.proofs.Alike.{held-alike, admits-alike}
+use Rattle.sound.proofs.Tested.{by-parts}
+use Rattle.sound.proofs.Laid.{ready-alike, admissible, try-testable, try-held, try-admitted, next-ready, among, past}
 use borrow.Fn.Kinds.{In}
 use borrow.Fn.PlainCycle.{Measures, is, falls, and}
 use Rattle.search.proofs.attempts.attempt.Reads as attempt
@@ -16,6 +18,8 @@ use Rattle.search.proofs.attempts.+attempt+over.Lts-attempt as attempt-
 use Rattle.search.proofs.attempts.over.Reads as over
 use Rattle.search.proofs.attempts.over.Kinds as over-kinds
 use Rattle.search.proofs.attempts.+attempt+over.Lts-over as over-lts
+use Rattle.sound.proofs.fits.admits.Reads as admits-reads
+use Rattle.sound.proofs.fits.beside.Reads as beside-reads
 use Rattle.sound.proofs.fits.fits.Reads as fits-reads
 use Rattle.search.proofs.attempts.+attempt+over.{statement}
 use Rattle.search.proofs.attempts.+attempt+over.Tie.{close}
@@ -38,7 +42,6 @@ over-at t = and 3 over-kinds.ps (is 3 over-kinds.ps μ-over t) over.Pre
 abbrev over-below : ℕ → In 3 over-kinds.ps
 over-below t = and 3 over-kinds.ps (falls 3 over-kinds.ps _<_ μ-over t) over.Pre
 
--- src/attempts.rt:60:9
 attempt-returns : (t : ℕ) → attempt-lts.Need-returns (
   fits-reads.Asked,
   fits-reads.Learnt,
@@ -47,70 +50,62 @@ attempt-returns : (t : ℕ) → attempt-lts.Need-returns (
 ) (attempt-at t) attempt.Post
 attempt-returns t c = tried.stops _ _ _ _ _ _ _ _ _ _ _ _ (c .if1 .taken)
 
--- src/attempts.rt:66:5
 attempt-mul-modules : (t : ℕ) → attempt-lts.Need-mul-modules (
   fits-reads.Asked,
   fits-reads.Learnt,
   over-below t,
   over.Post,
 ) (attempt-at t) attempt.Post
-attempt-mul-modules t c = omega (arith, c .before .pre .1 .1 .laid .room, c .before .pre .1 .1 .left)
+attempt-mul-modules t c = omega (arith, c .before .pre .1 .1 .1 .laid .room, c .before .pre .1 .1 .1 .left)
 
--- src/attempts.rt:66:5
 attempt-element-write-modules : (t : ℕ) → attempt-lts.Need-element-write-modules (
   fits-reads.Asked,
   fits-reads.Learnt,
   over-below t,
   over.Post,
 ) (attempt-at t) attempt.Post
-attempt-element-write-modules t c = omega (arith, c .before .pre .1 .1 .laid .room, c .before .pre .1 .1 .left)
+attempt-element-write-modules t c = omega (arith, c .before .pre .1 .1 .1 .laid .room, c .before .pre .1 .1 .1 .left)
 
--- src/attempts.rt:67:5
 attempt-mul-starts : (t : ℕ) → attempt-lts.Need-mul-starts (
   fits-reads.Asked,
   fits-reads.Learnt,
   over-below t,
   over.Post,
 ) (attempt-at t) attempt.Post
-attempt-mul-starts t c = omega (arith, c .before .pre .1 .1 .laid .room, c .before .pre .1 .1 .left)
+attempt-mul-starts t c = omega (arith, c .before .pre .1 .1 .1 .laid .room, c .before .pre .1 .1 .1 .left)
 
--- src/attempts.rt:67:5
 attempt-element-write-starts : (t : ℕ) → attempt-lts.Need-element-write-starts (
   fits-reads.Asked,
   fits-reads.Learnt,
   over-below t,
   over.Post,
 ) (attempt-at t) attempt.Post
-attempt-element-write-starts t c = omega (arith, c .before .pre .1 .1 .laid .room, c .before .pre .1 .1 .left)
+attempt-element-write-starts t c = omega (arith, c .before .pre .1 .1 .1 .laid .room, c .before .pre .1 .1 .1 .left)
 
--- src/attempts.rt:68:8
 attempt-fits-requires : (t : ℕ) → attempt-lts.Need-fits-requires (
   fits-reads.Asked,
   fits-reads.Learnt,
   over-below t,
   over.Post,
 ) (attempt-at t) attempt.Post
-attempt-fits-requires t c κs = try-testable _ _ _ _ _ _ (c .before .before .before .pre .1 .1) (c .before .before .before .pre .1 .0)
+attempt-fits-requires t c κs = let p = c .before .before .before .pre .1 in (try-testable _ _ _ _ _ (p .1 .1) _ (p .0 .0), try-held _ _ _ _ _ (p .1 .1) _ (p .0 .0) (p .0 .1))
 
--- src/attempts.rt:69:12
 attempt-add-if3 : (t : ℕ) → attempt-lts.Need-add-if3 (
   fits-reads.Asked,
   fits-reads.Learnt,
   over-below t,
   over.Post,
 ) (attempt-at t) attempt.Post
-attempt-add-if3 t c = omega (arith, c .before .before .before .before .before .pre .1 .1 .laid .room, c .before .before .before .before .before .pre .1 .1 .left)
+attempt-add-if3 t c = omega (arith, c .before .before .before .before .before .pre .1 .1 .1 .laid .room, c .before .before .before .before .before .pre .1 .1 .1 .left)
 
--- src/attempts.rt:70:157
 attempt-add-over : (t : ℕ) → attempt-lts.Need-add-over (
   fits-reads.Asked,
   fits-reads.Learnt,
   over-below t,
   over.Post,
 ) (attempt-at t) attempt.Post
-attempt-add-over t c = omega (arith, c .before .before .before .before .before .before .before .before .pre .1 .1 .laid .room, c .before .before .before .before .before .before .before .before .pre .1 .1 .left)
+attempt-add-over t c = omega (arith, c .before .before .before .before .before .before .before .before .pre .1 .1 .1 .laid .room, c .before .before .before .before .before .before .before .before .pre .1 .1 .1 .left)
 
--- src/attempts.rt:70:171
 attempt-add-over-2 : (t : ℕ) → attempt-lts.Need-add-over-2 (
   fits-reads.Asked,
   fits-reads.Learnt,
@@ -119,279 +114,281 @@ attempt-add-over-2 : (t : ℕ) → attempt-lts.Need-add-over-2 (
 ) (attempt-at t) attempt.Post
 attempt-add-over-2 t c = omega arith
 
--- src/attempts.rt:70:13
 attempt-over-requires : (t : ℕ) → attempt-lts.Need-over-requires (
   fits-reads.Asked,
   fits-reads.Learnt,
   over-below t,
   over.Post,
 ) (attempt-at t) attempt.Post
-attempt-over-requires t c κs = (omega (arith, c .before .before .before .before .before .before .before .before .pre .0, c .before .before .before .before .before .before .before .before .pre .1 .1 .laid .room, c .before .before .if3 .taken), next-ready _ _ _ _ _ _ (c .before .before .before .before .before .before .before .before .pre .1 .1) (c .before .before .before .before .before .before .before .before .pre .1 .0) (c .before .before .if3 .taken))
+attempt-over-requires t c κs = (omega (arith, c .before .before .before .before .before .before .before .before .pre .0, c .before .before .before .before .before .before .before .before .pre .1 .1 .1 .laid .room, c .before .before .if3 .taken), next-ready _ _ _ _ _ (c .before .before .before .before .before .before .before .before .pre .1 .1 .1) _ (c .before .before .before .before .before .before .before .before .pre .1 .0 .0) (c .before .before .if3 .taken))
 
--- src/attempts.rt:70:13
 attempt-returns-2 : (t : ℕ) → attempt-lts.Need-returns-2 (
   fits-reads.Asked,
   fits-reads.Learnt,
   over-below t,
   over.Post,
 ) (attempt-at t) attempt.Post
-attempt-returns-2 t c = tried.goes _ _ _ _ _ _ _ _ _ _ _ _ _ (c .before .before .before .before .before .before .before .before .if1 .left) (c .before .before .before .before .before .fits2 .ensures) _ (c .before .before .before .before .if2 .taken) (c .before .before .before .if3 .taken) (c .over .ensures)
+attempt-returns-2 t c = tried.goes _ _ _ _ _ _ _ _ _ _ _ _ _ (c .before .before .before .before .before .before .before .before .if1 .left) (by-parts _ _ _ _ (c .before .before .before .before .before .fits2 .ensures) (try-admitted _ _ _ _ _ (c .before .before .before .before .before .before .before .before .before .pre .1 .1 .1) _ (c .before .before .before .before .before .before .before .before .before .pre .1 .0 .0) (c .before .before .before .before .before .before .before .before .before .pre .1 .1 .0))) _ (c .before .before .before .before .if2 .taken) (c .before .before .before .if3 .taken) (c .over .ensures)
 
--- src/attempts.rt:75:20
-attempt-add-t36 : (t : ℕ) → attempt-lts.Need-add-t36 (
+attempt-add-t38 : (t : ℕ) → attempt-lts.Need-add-t38 (
   fits-reads.Asked,
   fits-reads.Learnt,
   over-below t,
   over.Post,
 ) (attempt-at t) attempt.Post
-attempt-add-t36 t c = omega arith
+attempt-add-t38 t c = omega arith
 
--- src/attempts.rt:72:9
 attempt-returns-3 : (t : ℕ) → attempt-lts.Need-returns-3 (
   fits-reads.Asked,
   fits-reads.Learnt,
   over-below t,
   over.Post,
 ) (attempt-at t) attempt.Post
-attempt-returns-3 t c = tried.finds _ _ _ _ _ _ _ _ _ _ _ _ _ (c .before .before .before .before .before .if1 .left) (c .before .before .fits2 .ensures) (c .before .if2 .taken) (c .if3 .left)
+attempt-returns-3 t c = tried.finds _ _ _ _ _ _ _ _ _ _ _ _ _ (c .before .before .before .before .before .if1 .left) (by-parts _ _ _ _ (c .before .before .fits2 .ensures) (try-admitted _ _ _ _ _ (c .before .before .before .before .before .before .pre .1 .1 .1) _ (c .before .before .before .before .before .before .pre .1 .0 .0) (c .before .before .before .before .before .before .pre .1 .1 .0))) (c .before .if2 .taken) (c .if3 .left)
 
--- src/attempts.rt:81:16
-attempt-add-t37 : (t : ℕ) → attempt-lts.Need-add-t37 (
+attempt-add-t39 : (t : ℕ) → attempt-lts.Need-add-t39 (
   fits-reads.Asked,
   fits-reads.Learnt,
   over-below t,
   over.Post,
 ) (attempt-at t) attempt.Post
-attempt-add-t37 t c = omega arith
+attempt-add-t39 t c = omega arith
 
--- src/attempts.rt:54:1
 attempt-returns-4 : (t : ℕ) → attempt-lts.Need-returns-4 (
   fits-reads.Asked,
   fits-reads.Learnt,
   over-below t,
   over.Post,
 ) (attempt-at t) attempt.Post
-attempt-returns-4 t c = tried.fails _ _ _ _ _ _ _ _ _ _ _ _ _ (c .before .before .before .before .if1 .left) (c .before .fits2 .ensures) (c .if2 .left)
+attempt-returns-4 t c = tried.fails _ _ _ _ _ _ _ _ _ _ _ _ _ (c .before .before .before .before .if1 .left) (by-parts _ _ _ _ (c .before .fits2 .ensures) (try-admitted _ _ _ _ _ (c .before .before .before .before .before .pre .1 .1 .1) _ (c .before .before .before .before .before .pre .1 .0 .0) (c .before .before .before .before .before .pre .1 .1 .0))) (c .if2 .left)
 
 abbrev over-Inv-loop2 : over-lts.InvT-loop2
-over-Inv-loop2 count hosts periods budgets memories divisors rooms excluded exclusions chained chains members delays modules₀ starts₀ j limit tries last k₀ m t₀ modules starts k t = Cols count hosts (widthOf periods budgets) (fitsBy (desk periods budgets memories divisors rooms excluded exclusions chained chains members delays)) limit j modules₀ starts₀ k₀ modules starts k m t × (last ≡ getD periods j 0 - getD budgets j 0) × (t ≤ last + 1)
+over-Inv-loop2 count hosts periods budgets memories divisors rooms excluded exclusions chained chains members delays modules₀ starts₀ j limit tries last k₀ m held admitted t₀ modules starts k t =
+    Cols count hosts (widthOf periods budgets) (fitsBy (desk periods budgets memories divisors rooms excluded exclusions chained chains members delays)) limit j modules₀ starts₀ k₀ modules starts k m t
+    × (held ≡ setOf (isOn modules₀ m) j)
+    × (admitted ≡ admitsOn memories rooms excluded exclusions modules₀ m j)
+    × (last ≡ getD periods j 0 - getD budgets j 0)
+    × (t ≤ last + 1)
 
 abbrev over-μ-loop2 : over-lts.MeasureT-loop2
-over-μ-loop2 count hosts periods budgets memories divisors rooms excluded exclusions chained chains members delays modules₀ starts₀ j limit tries last k₀ m t₀ modules starts k t = last + 1 - t
+over-μ-loop2 count hosts periods budgets memories divisors rooms excluded exclusions chained chains members delays modules₀ starts₀ j limit tries last k₀ m held admitted t₀ modules starts k t =
+    last + 1 - t
 
 abbrev over-Inv-loop : over-lts.InvT-loop
-over-Inv-loop count hosts periods budgets memories divisors rooms excluded exclusions chained chains members delays modules₀ starts₀ j limit tries last k₀ m₀ modules starts k m = Rows count hosts (widthOf periods budgets) (fitsBy (desk periods budgets memories divisors rooms excluded exclusions chained chains members delays)) limit j modules₀ starts₀ k₀ modules starts k m × (last ≡ getD periods j 0 - getD budgets j 0)
+over-Inv-loop count hosts periods budgets memories divisors rooms excluded exclusions chained chains members delays modules₀ starts₀ j limit tries last k₀ m₀ modules starts k m =
+    Rows count hosts (widthOf periods budgets) (fitsBy (desk periods budgets memories divisors rooms excluded exclusions chained chains members delays)) limit j modules₀ starts₀ k₀ modules starts k m × (last ≡ getD periods j 0 - getD budgets j 0)
 
 abbrev over-μ-loop : over-lts.MeasureT-loop
-over-μ-loop count hosts periods budgets memories divisors rooms excluded exclusions chained chains members delays modules₀ starts₀ j limit tries last k₀ m₀ modules starts k m = hosts - m
+over-μ-loop count hosts periods budgets memories divisors rooms excluded exclusions chained chains members delays modules₀ starts₀ j limit tries last k₀ m₀ modules starts k m =
+    hosts - m
 
--- src/attempts.rt:28:16
-over-mul-last :
-    (t : ℕ) →
-    over-lts.Need-mul-last
-    (attempt-below t, attempt.Post)
-    (over-at t)
-    over.Post
-    over-Inv-loop2
-    over-μ-loop2
-    over-Inv-loop
-    over-μ-loop
+over-mul-last : (t : ℕ) → over-lts.Need-mul-last (
+  beside-reads.Asked,
+  beside-reads.Learnt,
+  admits-reads.Asked,
+  admits-reads.Learnt,
+  attempt-below t,
+  attempt.Post,
+) (over-at t) over.Post over-Inv-loop2 over-μ-loop2 over-Inv-loop over-μ-loop
 over-mul-last t c = omega (arith, c .pre .1 .laid .room, c .pre .1 .left)
 
--- src/attempts.rt:28:16
 over-element-copy-out-last : (t : ℕ) → over-lts.Need-element-copy-out-last (
+  beside-reads.Asked,
+  beside-reads.Learnt,
+  admits-reads.Asked,
+  admits-reads.Learnt,
   attempt-below t,
   attempt.Post,
 ) (over-at t) over.Post over-Inv-loop2 over-μ-loop2 over-Inv-loop over-μ-loop
 over-element-copy-out-last t c = omega (arith, c .pre .1 .laid .room, c .pre .1 .left)
 
--- src/attempts.rt:28:29
-over-mul-last-2 :
-    (t : ℕ) →
-    over-lts.Need-mul-last-2
-    (attempt-below t, attempt.Post)
-    (over-at t)
-    over.Post
-    over-Inv-loop2
-    over-μ-loop2
-    over-Inv-loop
-    over-μ-loop
+over-mul-last-2 : (t : ℕ) → over-lts.Need-mul-last-2 (
+  beside-reads.Asked,
+  beside-reads.Learnt,
+  admits-reads.Asked,
+  admits-reads.Learnt,
+  attempt-below t,
+  attempt.Post,
+) (over-at t) over.Post over-Inv-loop2 over-μ-loop2 over-Inv-loop over-μ-loop
 over-mul-last-2 t c = omega (arith, c .before .pre .1 .laid .room, c .before .pre .1 .left)
 
--- src/attempts.rt:28:29
 over-element-copy-out-last-2 : (t : ℕ) → over-lts.Need-element-copy-out-last-2 (
+  beside-reads.Asked,
+  beside-reads.Learnt,
+  admits-reads.Asked,
+  admits-reads.Learnt,
   attempt-below t,
   attempt.Post,
 ) (over-at t) over.Post over-Inv-loop2 over-μ-loop2 over-Inv-loop over-μ-loop
 over-element-copy-out-last-2 t c = omega (arith, c .before .pre .1 .laid .room, c .before .pre .1 .left)
 
--- src/attempts.rt:28:16
-over-sub-last :
-    (t : ℕ) →
-    over-lts.Need-sub-last
-    (attempt-below t, attempt.Post)
-    (over-at t)
-    over.Post
-    over-Inv-loop2
-    over-μ-loop2
-    over-Inv-loop
-    over-μ-loop
+over-sub-last : (t : ℕ) → over-lts.Need-sub-last (
+  beside-reads.Asked,
+  beside-reads.Learnt,
+  admits-reads.Asked,
+  admits-reads.Learnt,
+  attempt-below t,
+  attempt.Post,
+) (over-at t) over.Post over-Inv-loop2 over-μ-loop2 over-Inv-loop over-μ-loop
 over-sub-last t c = c .before .before .pre .1 .laid .within (c .before .before .args .j) (c .before .before .pre .1 .left)
 
--- src/attempts.rt:31:5
-over-loop-holds :
-    (t : ℕ) →
-    over-lts.Need-loop-holds
-    (attempt-below t, attempt.Post)
-    (over-at t)
-    over.Post
-    over-Inv-loop2
-    over-μ-loop2
-    over-Inv-loop
-    over-μ-loop
-over-loop-holds t c = (begin _ _ _ _ _ _ _ _ _ (c .before .before .pre .1 .left) (c .before .before .pre .1 .placed), refl)
+over-loop-holds : (t : ℕ) → over-lts.Need-loop-holds (
+  beside-reads.Asked,
+  beside-reads.Learnt,
+  admits-reads.Asked,
+  admits-reads.Learnt,
+  attempt-below t,
+  attempt.Post,
+) (over-at t) over.Post over-Inv-loop2 over-μ-loop2 over-Inv-loop over-μ-loop
+over-loop-holds t c = (begin _ _ _ _ _ _ _ _ _ (c .before .before .pre .1 .left), refl)
 
--- src/attempts.rt:33:9
-over-loop2-holds :
-    (t : ℕ) →
-    over-lts.Need-loop2-holds
-    (attempt-below t, attempt.Post)
-    (over-at t)
-    over.Post
-    over-Inv-loop2
-    over-μ-loop2
-    over-Inv-loop
-    over-μ-loop
-over-loop2-holds t c = (enter _ _ _ _ _ _ _ _ _ _ (c .before .loop .inv .0 .placed), c .before .loop .inv .1, omega arith)
+over-beside-requires : (t : ℕ) → over-lts.Need-beside-requires (
+  beside-reads.Asked,
+  beside-reads.Learnt,
+  admits-reads.Asked,
+  admits-reads.Learnt,
+  attempt-below t,
+  attempt.Post,
+) (over-at t) over.Post over-Inv-loop2 over-μ-loop2 over-Inv-loop over-μ-loop
+over-beside-requires t c κs = omega (arith, c .before .before .before .before .before .pre .1 .laid .room, c .before .before .before .before .before .pre .1 .left)
 
--- src/attempts.rt:34:17
-over-attempt-requires :
-    (t : ℕ) →
-    over-lts.Need-attempt-requires
-    (attempt-below t, attempt.Post)
-    (over-at t)
-    over.Post
-    over-Inv-loop2
-    over-μ-loop2
-    over-Inv-loop
-    over-μ-loop
-over-attempt-requires t c κs = (omega (arith, c .before .before .before .before .before .before .before .before .pre .0), (c .before .before .before .before .loop-test .taken, record { laid = c .before .before .before .before .before .before .before .before .pre .1 .laid; left = c .before .before .before .before .before .before .before .before .pre .1 .left; placed = c .before .before .before .loop2 .inv .0 .placed }))
+over-admits-requires : (t : ℕ) → over-lts.Need-admits-requires (
+  beside-reads.Asked,
+  beside-reads.Learnt,
+  admits-reads.Asked,
+  admits-reads.Learnt,
+  attempt-below t,
+  attempt.Post,
+) (over-at t) over.Post over-Inv-loop2 over-μ-loop2 over-Inv-loop over-μ-loop
+over-admits-requires t c κs =
+    let kept = c .before .before .before .before .loop .inv .0 .kept in
+    let ready = ready-alike _ _ _ _ _ (c .before .before .before .before .before .before .before .pre .1) _ (kept .long) (kept .same) in
+    (admissible _ _ _ _ _ ready _ (c .before .before .before .loop-test .taken), c .before .beside .ensures)
 
--- src/attempts.rt:36:17
-over-returns :
-    (t : ℕ) →
-    over-lts.Need-returns
-    (attempt-below t, attempt.Post)
-    (over-at t)
-    over.Post
-    over-Inv-loop2
-    over-μ-loop2
-    over-Inv-loop
-    over-μ-loop
-over-returns t c = hit _ _ _ _ _ _ _ _ _ _ _ _ _ (c .before .before .before .before .before .before .before .loop .inv .0) (c .before .before .before .before .before .before .loop-test .taken) _ _ _ _ (c .before .before .before .before .before .loop2 .inv .0) (among _ _ _ _ (c .before .before .before .before .before .loop2 .inv .1) (c .before .before .before .before .loop2-test .taken)) _ (c .before .attempt .ensures) (c .if1 .taken)
+over-loop2-holds : (t : ℕ) → over-lts.Need-loop2-holds (
+  beside-reads.Asked,
+  beside-reads.Learnt,
+  admits-reads.Asked,
+  admits-reads.Learnt,
+  attempt-below t,
+  attempt.Post,
+) (over-at t) over.Post over-Inv-loop2 over-μ-loop2 over-Inv-loop over-μ-loop
+over-loop2-holds t c = (enter _ _ _ _ _ _ _ _ _ _, c .before .before .beside .ensures, c .admits .ensures, c .before .before .before .before .before .loop .inv .1, omega arith)
 
--- src/attempts.rt:39:17
-over-returns-2 :
-    (t : ℕ) →
-    over-lts.Need-returns-2
-    (attempt-below t, attempt.Post)
-    (over-at t)
-    over.Post
-    over-Inv-loop2
-    over-μ-loop2
-    over-Inv-loop
-    over-μ-loop
-over-returns-2 t c = halt _ _ _ _ _ _ _ _ _ _ _ _ _ (c .before .before .before .before .before .before .before .before .loop .inv .0) (c .before .before .before .before .before .before .before .loop-test .taken) _ _ _ _ (c .before .before .before .before .before .before .loop2 .inv .0) (among _ _ _ _ (c .before .before .before .before .before .before .loop2 .inv .1) (c .before .before .before .before .before .loop2-test .taken)) _ (c .before .before .attempt .ensures) (c .if2 .taken)
+over-attempt-requires : (t : ℕ) → over-lts.Need-attempt-requires (
+  beside-reads.Asked,
+  beside-reads.Learnt,
+  admits-reads.Asked,
+  admits-reads.Learnt,
+  attempt-below t,
+  attempt.Post,
+) (over-at t) over.Post over-Inv-loop2 over-μ-loop2 over-Inv-loop over-μ-loop
+over-attempt-requires t c κs =
+    let start = c .before .before .before .before .before .before .before .before .before .before .before .before in
+    let a = start .args in
+    let row = c .before .before .before .before .before .before .before .before .before .loop in
+    let col = c .before .before .before .loop2 in
+    let now = col .inv .0 .kept in
+    let ready = ready-alike _ _ _ (row .modules) _ (ready-alike _ _ _ _ _ (start .pre .1) _ (row .inv .0 .kept .long) (row .inv .0 .kept .same)) _ (now .long) (now .same) in (
+      omega (arith, start .pre .0),
+      (
+        (c .before .before .before .before .before .before .before .before .loop-test .taken, col .inv .1 ∙ held-alike (row .modules) (col .modules) (row .m) (a .j) (λ i l. sym (now .same i l))),
+        (
+          col .inv .2
+              ∙ admits-alike (row .modules) (col .modules) (row .m) (a .j) (λ i l. sym (now .same i l)) (a .memories .now) (a .rooms .now) (a .excluded) (a .exclusions .now) (start .pre .1 .laid .order),
+          ready,
+        ),
+      ),
+    )
 
--- src/attempts.rt:42:13
-over-add-t :
-    (t : ℕ) →
-    over-lts.Need-add-t
-    (attempt-below t, attempt.Post)
-    (over-at t)
-    over.Post
-    over-Inv-loop2
-    over-μ-loop2
-    over-Inv-loop
-    over-μ-loop
-over-add-t t c = omega (arith, c .before .before .before .before .before .before .before .before .before .before .before .pre .1 .laid .short (c .before .before .before .before .before .before .before .before .before .before .before .args .j) (c .before .before .before .before .before .before .before .before .before .before .before .pre .1 .left), c .before .before .before .before .before .before .loop2 .inv .1, c .before .before .before .before .before .loop2-test .taken)
+over-returns : (t : ℕ) → over-lts.Need-returns (
+  beside-reads.Asked,
+  beside-reads.Learnt,
+  admits-reads.Asked,
+  admits-reads.Learnt,
+  attempt-below t,
+  attempt.Post,
+) (over-at t) over.Post over-Inv-loop2 over-μ-loop2 over-Inv-loop over-μ-loop
+over-returns t c = hit _ _ _ _ _ _ _ _ _ _ _ _ _ (c .before .before .before .before .before .before .before .before .before .before .before .loop .inv .0) (c .before .before .before .before .before .before .before .before .before .before .loop-test .taken) _ _ _ _ (c .before .before .before .before .before .loop2 .inv .0) (among _ _ _ _ (c .before .before .before .before .before .loop2 .inv .3) (c .before .before .before .before .loop2-test .taken)) _ (c .before .attempt .ensures) (c .if1 .taken)
 
--- src/attempts.rt:33:9
-over-loop2-less :
-    (t : ℕ) →
-    over-lts.Need-loop2-less
-    (attempt-below t, attempt.Post)
-    (over-at t)
-    over.Post
-    over-Inv-loop2
-    over-μ-loop2
-    over-Inv-loop
-    over-μ-loop
+over-returns-2 : (t : ℕ) → over-lts.Need-returns-2 (
+  beside-reads.Asked,
+  beside-reads.Learnt,
+  admits-reads.Asked,
+  admits-reads.Learnt,
+  attempt-below t,
+  attempt.Post,
+) (over-at t) over.Post over-Inv-loop2 over-μ-loop2 over-Inv-loop over-μ-loop
+over-returns-2 t c = halt _ _ _ _ _ _ _ _ _ _ _ _ _ (c .before .before .before .before .before .before .before .before .before .before .before .before .loop .inv .0) (c .before .before .before .before .before .before .before .before .before .before .before .loop-test .taken) _ _ _ _ (c .before .before .before .before .before .before .loop2 .inv .0) (among _ _ _ _ (c .before .before .before .before .before .before .loop2 .inv .3) (c .before .before .before .before .before .loop2-test .taken)) _ (c .before .before .attempt .ensures) (c .if2 .taken)
+
+over-add-t : (t : ℕ) → over-lts.Need-add-t (
+  beside-reads.Asked,
+  beside-reads.Learnt,
+  admits-reads.Asked,
+  admits-reads.Learnt,
+  attempt-below t,
+  attempt.Post,
+) (over-at t) over.Post over-Inv-loop2 over-μ-loop2 over-Inv-loop over-μ-loop
+over-add-t t c = omega (arith, c .before .before .before .before .before .before .before .before .before .before .before .before .before .before .before .pre .1 .laid .short (c .before .before .before .before .before .before .before .before .before .before .before .before .before .before .before .args .j) (c .before .before .before .before .before .before .before .before .before .before .before .before .before .before .before .pre .1 .left), c .before .before .before .before .before .before .loop2 .inv .3, c .before .before .before .before .before .loop2-test .taken)
+
+over-loop2-less : (t : ℕ) → over-lts.Need-loop2-less (
+  beside-reads.Asked,
+  beside-reads.Learnt,
+  admits-reads.Asked,
+  admits-reads.Learnt,
+  attempt-below t,
+  attempt.Post,
+) (over-at t) over.Post over-Inv-loop2 over-μ-loop2 over-Inv-loop over-μ-loop
 over-loop2-less t c = omega (arith, c .before .before .before .before .before .loop2-test .taken)
 
--- src/attempts.rt:33:9
-over-loop2-again :
-    (t : ℕ) →
-    over-lts.Need-loop2-again
-    (attempt-below t, attempt.Post)
-    (over-at t)
-    over.Post
-    over-Inv-loop2
-    over-μ-loop2
-    over-Inv-loop
-    over-μ-loop
-over-loop2-again t c = (turn _ _ _ _ _ _ _ _ _ _ _ _ _ _ (c .before .before .before .before .before .before .loop2 .inv .0) (among _ _ _ _ (c .before .before .before .before .before .before .loop2 .inv .1) (c .before .before .before .before .before .loop2-test .taken)) _ (c .before .before .attempt .ensures) (c .before .if1 .left) (c .if2 .left), c .before .before .before .before .before .before .loop2 .inv .1, omega (arith, c .before .before .before .before .before .loop2-test .taken))
+over-loop2-again : (t : ℕ) → over-lts.Need-loop2-again (
+  beside-reads.Asked,
+  beside-reads.Learnt,
+  admits-reads.Asked,
+  admits-reads.Learnt,
+  attempt-below t,
+  attempt.Post,
+) (over-at t) over.Post over-Inv-loop2 over-μ-loop2 over-Inv-loop over-μ-loop
+over-loop2-again t c = (turn _ _ _ _ _ _ _ _ _ _ _ _ _ _ (c .before .before .before .before .before .before .loop2 .inv .0) (among _ _ _ _ (c .before .before .before .before .before .before .loop2 .inv .3) (c .before .before .before .before .before .loop2-test .taken)) _ (c .before .before .attempt .ensures) (c .before .if1 .left) (c .if2 .left), c .before .before .before .before .before .before .loop2 .inv .1, c .before .before .before .before .before .before .loop2 .inv .2, c .before .before .before .before .before .before .loop2 .inv .3, omega (arith, c .before .before .before .before .before .loop2-test .taken))
 
--- src/attempts.rt:44:9
-over-add-m :
-    (t : ℕ) →
-    over-lts.Need-add-m
-    (attempt-below t, attempt.Post)
-    (over-at t)
-    over.Post
-    over-Inv-loop2
-    over-μ-loop2
-    over-Inv-loop
-    over-μ-loop
-over-add-m t c = omega (arith, c .before .before .loop-test .taken)
+over-add-m : (t : ℕ) → over-lts.Need-add-m (
+  beside-reads.Asked,
+  beside-reads.Learnt,
+  admits-reads.Asked,
+  admits-reads.Learnt,
+  attempt-below t,
+  attempt.Post,
+) (over-at t) over.Post over-Inv-loop2 over-μ-loop2 over-Inv-loop over-μ-loop
+over-add-m t c = omega (arith, c .before .before .before .before .before .before .loop-test .taken)
 
--- src/attempts.rt:31:5
-over-loop-less :
-    (t : ℕ) →
-    over-lts.Need-loop-less
-    (attempt-below t, attempt.Post)
-    (over-at t)
-    over.Post
-    over-Inv-loop2
-    over-μ-loop2
-    over-Inv-loop
-    over-μ-loop
-over-loop-less t c = omega (arith, c .before .before .loop-test .taken)
+over-loop-less : (t : ℕ) → over-lts.Need-loop-less (
+  beside-reads.Asked,
+  beside-reads.Learnt,
+  admits-reads.Asked,
+  admits-reads.Learnt,
+  attempt-below t,
+  attempt.Post,
+) (over-at t) over.Post over-Inv-loop2 over-μ-loop2 over-Inv-loop over-μ-loop
+over-loop-less t c = omega (arith, c .before .before .before .before .before .before .loop-test .taken)
 
--- src/attempts.rt:31:5
-over-loop-again :
-    (t : ℕ) →
-    over-lts.Need-loop-again
-    (attempt-below t, attempt.Post)
-    (over-at t)
-    over.Post
-    over-Inv-loop2
-    over-μ-loop2
-    over-Inv-loop
-    over-μ-loop
-over-loop-again t c = (leave _ _ _ _ _ _ _ _ _ _ _ _ _ (c .before .before .before .loop .inv .0) (c .before .before .loop-test .taken) _ _ _ _ (c .before .loop2 .inv .0) (past _ _ _ _ (c .before .loop2 .inv .1) (c .loop2-test .left)), c .before .before .before .loop .inv .1)
+over-loop-again : (t : ℕ) → over-lts.Need-loop-again (
+  beside-reads.Asked,
+  beside-reads.Learnt,
+  admits-reads.Asked,
+  admits-reads.Learnt,
+  attempt-below t,
+  attempt.Post,
+) (over-at t) over.Post over-Inv-loop2 over-μ-loop2 over-Inv-loop over-μ-loop
+over-loop-again t c = (leave _ _ _ _ _ _ _ _ _ _ _ _ _ (c .before .before .before .before .before .before .before .loop .inv .0) (c .before .before .before .before .before .before .loop-test .taken) _ _ _ _ (c .before .loop2 .inv .0) (past _ _ _ _ (c .before .loop2 .inv .3) (c .loop2-test .left)), c .before .before .before .before .before .before .before .loop .inv .1)
 
--- src/attempts.rt:24:1
-over-returns-3 :
-    (t : ℕ) →
-    over-lts.Need-returns-3
-    (attempt-below t, attempt.Post)
-    (over-at t)
-    over.Post
-    over-Inv-loop2
-    over-μ-loop2
-    over-Inv-loop
-    over-μ-loop
+over-returns-3 : (t : ℕ) → over-lts.Need-returns-3 (
+  beside-reads.Asked,
+  beside-reads.Learnt,
+  admits-reads.Asked,
+  admits-reads.Learnt,
+  attempt-below t,
+  attempt.Post,
+) (over-at t) over.Post over-Inv-loop2 over-μ-loop2 over-Inv-loop over-μ-loop
 over-returns-3 t c = done _ _ _ _ _ _ _ _ _ _ _ _ _ (c .before .loop .inv .0) (c .loop-test .left)
 
 pub +attempt+over-spec : {M : Type 1} → statement M
@@ -414,12 +411,18 @@ pub +attempt+over-spec : {M : Type 1} → statement M
     (attempt-add-over-2 t)
     (attempt-over-requires t)
     (attempt-returns-2 t)
-    (attempt-add-t36 t)
+    (attempt-add-t38 t)
     (attempt-returns-3 t)
-    (attempt-add-t37 t)
+    (attempt-add-t39 t)
     (attempt-returns-4 t))
-    λ t. over-lts.spec
-    (attempt-below t, attempt.Post)
+    λ t. over-lts.spec (
+      beside-reads.Asked,
+      beside-reads.Learnt,
+      admits-reads.Asked,
+      admits-reads.Learnt,
+      attempt-below t,
+      attempt.Post,
+    )
     (over-at t)
     over.Post
     over-Inv-loop2
@@ -432,6 +435,8 @@ pub +attempt+over-spec : {M : Type 1} → statement M
     (over-element-copy-out-last-2 t)
     (over-sub-last t)
     (over-loop-holds t)
+    (over-beside-requires t)
+    (over-admits-requires t)
     (over-loop2-holds t)
     (over-attempt-requires t)
     (over-returns t)

@@ -58,7 +58,7 @@ cast-over c = let f = (number-fair _ _ (c .before .before .before .before .befor
 -- src/run.rt:53:5
 over-requires : tie.Need-over-requires
 unfolding roomsOf exclusionsOf chainsOf membersOf
-over-requires c κs = begins _ _ (number-fair _ _ (c .before .before .before .before .before .before .before .before .before .before .before .before .before .before .before .before .before .before .before .before .before .before .before .before .before .pre .0)) (c .before .before .before .before .before .before .before .before .before .before .before .before .before .before .before .before .before .before .before .before .periods .ensures) (c .before .before .before .before .before .before .before .before .before .before .before .before .before .before .before .before .before .before .before .budgets .ensures) (c .before .before .before .before .before .before .before .before .before .before .before .before .before .before .before .before .before .before .memories .ensures) (c .before .before .before .before .before .before .before .before .before .before .before .before .before .before .before .before .divisors-of .ensures) (c .before .before .before .before .before .before .before .before .before .before .before .before .before .before .before .rooms-of .ensures) (c .before .before .before .before .before .before .before .before .before .before .before .before .before .before .exclusions-of .ensures) (c .before .before .before .before .before .before .before .before .before .before .before .before .before .chains-of .ensures) (c .before .before .before .before .before .before .before .before .before .before .before .before .members-of .ensures) _
+over-requires c κs = begins _ _ (number-fair _ _ (c .before .before .before .before .before .before .before .before .before .before .before .before .before .before .before .before .before .before .before .before .before .before .before .before .before .pre .0)) (c .before .before .before .before .before .before .before .before .before .before .before .before .before .before .before .before .before .before .before .before .periods .ensures) (c .before .before .before .before .before .before .before .before .before .before .before .before .before .before .before .before .before .before .before .budgets .ensures) (c .before .before .before .before .before .before .before .before .before .before .before .before .before .before .before .before .before .before .memories .ensures) (c .before .before .before .before .before .before .before .before .before .before .before .before .before .before .before .before .divisors-of .ensures) (c .before .before .before .before .before .before .before .before .before .before .before .before .before .before .before .rooms-of .ensures) (c .before .before .before .before .before .before .before .before .before .before .before .before .before .before .exclusions-of .ensures) (c .before .before .before .before .before .before .before .before .before .before .before .before .before .chains-of .ensures) (c .before .before .before .before .before .before .before .before .before .before .before .before .members-of .ensures) _ (c .before .before .before .before .before .before .before .before .before .before .before .before .before .before .before .before .before .before .before .before .before .before .before .before .before .pre .1 .0)
 
 -- src/run.rt:37:1
 returns : tie.Need-returns

@@ -13,10 +13,11 @@ use Rattle.sound.proofs.fits.parted_of.Lts as lts
 use Rattle.sound.proofs.fits.parted_at.Reads as parted-at-reads
 
 abbrev Inv-loop : tie.InvT-loop
-Inv-loop rooms excluded exclusions modules j x₀ x = (x ≤ excluded) × (failsFrom (partedAt rooms exclusions modules j) (excluded - x) x ≡ firstFail (partedAt rooms exclusions modules j) excluded)
+Inv-loop rooms excluded exclusions modules m j x₀ x =
+    (x ≤ excluded) × (failsFrom (partedAt rooms exclusions modules m j) (excluded - x) x ≡ firstFail (partedAt rooms exclusions modules m j) excluded)
 
 abbrev μ-loop : tie.MeasureT-loop
-μ-loop rooms excluded exclusions modules j x₀ x = excluded - x
+μ-loop rooms excluded exclusions modules m j x₀ x = excluded - x
 
 -- src/fits.rt:102:5
 loop-holds : tie.Need-loop-holds Inv-loop μ-loop
@@ -24,7 +25,9 @@ loop-holds c = (omega arith, fails-start _ _)
 
 -- src/fits.rt:103:13
 parted-at-requires : tie.Need-parted-at-requires Inv-loop μ-loop
-parted-at-requires c κs = (omega arith, c .before .before .pre .0 .1, c .before .before .pre .1 (c .before .loop .x) (c .loop-test .taken))
+parted-at-requires c κs =
+    let p = c .before .before .pre in
+    (omega (arith, p .few), p .on, p .placed (c .before .loop .x) (c .loop-test .taken))
 
 -- src/fits.rt:104:13
 returns : tie.Need-returns Inv-loop μ-loop
