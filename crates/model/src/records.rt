@@ -83,6 +83,10 @@ pub struct Exclusion {
 }
 
 impl Exclusion {
+    pub const MODULE: u8 = 0;
+
+    pub const CABINET: u8 = 1;
+
     pub const KIND_BITS: usize = 1;
 
     pub const BITS: usize = Exclusion::KIND_BITS + Partition::NUMBER_BITS + Partition::NUMBER_BITS;

@@ -1,22 +1,26 @@
 // Going over one partition's placements, and trying one placement. They call each other: the next partition is taken up only from inside a try,
-// and partitions left fall, so calls nest at most 64 partitions deep. Nothing is copied in a try: the plan is two columns behind `&mut`; what a
-// start does not change (which partitions are on the module, and whether it admits one more) is worked out once for all starts on a module.
+// and partitions left fall, so calls nest at most 64 partitions deep. Nothing is copied in a try: the plan is two columns behind `&mut`. What a
+// start does not change (which partitions are on the module, and whether it admits one more) is worked out once for all starts on a module, and
+// which exclusions and chains speak of the partition once for all its placements.
 ghost use mathlib.Core.Path.{_≡_};
 ghost use Prim.Native.Nat.{_<_};
 ghost use Rattle.sets.specs.Members.{setOf};
 ghost use Rattle.judge.specs.Constraints.{isOn};
 ghost use Rattle.tries.specs.Code.{begun};
-ghost use Rattle.sound.specs.Desk.{desk, admitsOn};
+ghost use Rattle.sound.specs.Desk.{desk, admitsOn, completedBy};
 ghost use Rattle.sound.specs.Asked.{Ready};
 ghost use Rattle.search.specs.Standing.{standing, Searched, Tried};
 use model::records::Chain;
+use model::records::Exclusion;
 use model::records::Sheet;
 use sound::desk::Link;
 use sound::desk::Pair;
 use sound::desk::Room;
 use sound::fits::admits;
 use sound::fits::beside;
+use sound::fits::completed;
 use sound::fits::fits;
+use sound::fits::partners;
 
 // Where a search ends: with a plan, with the budget spent, or with neither; and the tries made. `tries` stands between the two answers for speed
 // (docs/DECISIONS.md, "The search").
@@ -51,11 +55,14 @@ pub fn over<'a>(
     ensures { λ r. ⌜ Searched count hosts (desk (now (periods .entry)) (now (budgets .entry)) (now (memories .entry)) (now (divisors .entry)) (now (rooms .entry)) excluded (now (exclusions .entry)) chained (now (chains .entry)) (now (members .entry)) (now (delays .entry))) limit j (begun tries (now (modules .entry)) (now (starts .entry))) (standing r (now (modules .exit)) (now (starts .exit))) ⌝ }
 {
     let last = periods[j] - budgets[j];
+    let apart = partners(excluded, exclusions, Exclusion::MODULE, j);
+    let far = partners(excluded, exclusions, Exclusion::CABINET, j);
+    let ending = completed(chained, chains, j);
     let mut k = tries;
     let mut m: u32 = 0;
     while m < hosts {
         let held = beside(modules, m, j);
-        let admitted = admits(memories, rooms, excluded, exclusions, modules, m, held, j);
+        let admitted = admits(memories, rooms, modules, m, held, apart, far, j);
         let mut t: u32 = 0;
         while t <= last {
             let o = attempt(
@@ -76,6 +83,7 @@ pub fn over<'a>(
                 starts,
                 j,
                 limit,
+                ending,
                 m,
                 held,
                 admitted,
@@ -100,8 +108,8 @@ pub fn over<'a>(
     }
 }
 
-// One try: partition j on module m with start t, and where that fits the partitions left. `held` are the partitions before j on module m, and
-// `admitted` says whether it admits j.
+// One try: partition j on module m with start t, and where that fits the partitions left. `ending` are the chains that j completes, `held` the
+// partitions before j on module m, and `admitted` says whether it admits j.
 fn attempt<'a>(
     count: usize,
     hosts: u32,
@@ -120,13 +128,14 @@ fn attempt<'a>(
     starts: &mut [u32; Sheet::PARTITIONS],
     j: usize,
     limit: u32,
+    ending: u64,
     m: u32,
     held: u64,
     admitted: bool,
     t: u32,
     tries: u32,
 ) -> Outcome
-    requires { ⌜ (m < hosts) × (held ≡ setOf (isOn (now modules) m) j) ⌝ }
+    requires { ⌜ (m < hosts) × (held ≡ setOf (isOn (now modules) m) j) × (ending ≡ completedBy (now chains) j chained) ⌝ }
     requires { ⌜ admitted ≡ admitsOn (now memories) (now rooms) excluded (now exclusions) (now modules) m j ⌝ }
     requires { ⌜ Ready count hosts (desk (now periods) (now budgets) (now memories) (now divisors) (now rooms) excluded (now exclusions) chained (now chains) (now members) (now delays)) (now modules) j ⌝ }
     ensures { λ r. ⌜ Tried count hosts (desk (now (periods .entry)) (now (budgets .entry)) (now (memories .entry)) (now (divisors .entry)) (now (rooms .entry)) excluded (now (exclusions .entry)) chained (now (chains .entry)) (now (members .entry)) (now (delays .entry))) limit j m t (begun tries (now (modules .entry)) (now (starts .entry))) (standing r (now (modules .exit)) (now (starts .exit))) ⌝ }
@@ -144,12 +153,12 @@ fn attempt<'a>(
         periods,
         budgets,
         divisors,
-        chained,
         chains,
         members,
         delays,
         modules,
         starts,
+        ending,
         held,
         admitted,
         j,

@@ -2,10 +2,10 @@
 -- Assumes nothing.
 use mathlib.Core.Path.{_≡_, refl, ap, _∙_, sym}
 use mathlib.Core.Logic.{_≢_}
-use Prim.Native.Nat.{ℕ, zero, suc, _+_, _*_, _-_, _/_, _%_, _^_, _≤_, _<_, max}
+use Prim.Native.Nat.{ℕ, zero, suc, _+_, _*_, _-_, _/_, _%_, _^_, _≤_, _<_, max, min}
 use native.Mathlib.Nat.{div-div-eq-div-mul, pow-succ', div-one, mod-lt, div-eq-of-lt, add-div-right, le-div-iff-mul-le, le-trans}
 use native.Mathlib.Omega.{arith}
-use lib.Bits.{bitAnd, bitOr, and-step, or-step, or-shr, and-self, or-zero-r}
+use lib.Bits.{bitAnd, bitOr, and-step, and-shr, or-step, or-shr, and-self, or-zero-r}
 use lib.Dec.{lit<}
 use lib.Pow.{pow-pos, pow-mono}
 use lib.Count.{trailingZeros, under}
@@ -55,6 +55,14 @@ no-digit-of-power (suc i) (suc j) h =
 pub digit-of-or : (x y i : ℕ) → digit (bitOr x y) i ≡ max (digit x i) (digit y i)
 digit-of-or x y i =
     ap (λ (m : ℕ). m % 2) (or-shr x y i ∙ or-step (x / 2 ^ i) (y / 2 ^ i)) ∙ last _ _ (omega (arith, digit-below-two x i, digit-below-two y i))
+  where
+    last : (q r : ℕ) → r < 2 → (q * 2 + r) % 2 ≡ r
+    last q r h = omega arith
+
+-- ---- of `&`
+pub digit-of-and : (x y i : ℕ) → digit (bitAnd x y) i ≡ min (digit x i) (digit y i)
+digit-of-and x y i =
+    ap (λ (m : ℕ). m % 2) (and-shr x y i ∙ and-step (x / 2 ^ i) (y / 2 ^ i)) ∙ last _ _ (omega (arith, digit-below-two x i, digit-below-two y i))
   where
     last : (q r : ℕ) → r < 2 → (q * 2 + r) % 2 ≡ r
     last q r h = omega arith

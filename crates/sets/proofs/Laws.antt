@@ -4,21 +4,21 @@
 -- Assumes nothing.
 use mathlib.Core.Path.{_≡_, refl, ap, _∙_, sym, subst}
 use mathlib.Core.Logic.{_≢_}
-use mathlib.Core.Bool.{Bool, true, false, cond, _&&_, true≢false}
+use mathlib.Core.Bool.{Bool, true, false, cond, not, _&&_, true≢false}
 use mathlib.Core.List.{[], _∷_}
 use Prim.Native.Nat.{ℕ, zero, suc, _+_, _*_, _-_, _/_, _%_, _^_, _≤_, _<_}
 use native.Mathlib.Nat.{pow-succ', zero-div, le-trans, pos-of-ne-zero}
 use native.Mathlib.Numerals.{add-one}
 use native.Mathlib.Decide.{ℕ-discrete, decLt}
 use native.Mathlib.Omega.{arith}
-use lib.Bits.{bitAnd, bitOr, or-lt}
+use lib.Bits.{bitAnd, bitOr, or-lt, and-lt}
 use lib.Count.{ones, ones-step, trailingZeros, trailing-of-zero, trailing-le}
 use lib.Dec.{eqb, lit<}
 use lib.Pow.{pow-pos, pow-lt, pow-mono}
-use borrow.Author.Tests.{eqb-true, eqb-false, eq-eqb, ne-eqb}
+use borrow.Author.Tests.{eqb-true, eqb-false, eq-eqb, ne-eqb, not-true}
 use Rattle.sets.specs.Members.{places, member, sumBelow, countBelow, setOf, keptFrom, kept, membersOf, every, eachIn, sizeOf, sumOver, lowestOf, withMember, withoutLowest}
-use Rattle.sets.proofs.Digits.{digit, digit-below-two, digit-first, digit-next, digit-above, same-digits, or-kept, or-added, added-is-there, added-elsewhere, taken-is-gone, taken-elsewhere, trailing-below, trailing-is-one, below-trailing, and-takes-lowest}
-use Rattle.sets.proofs.Passing.{sum-at-most, sum-same, sum-first, sum-longer, sum-of-one-more, first-is, first-of-none, kept-same, kept-none, kept-longer, kept-walk}
+use Rattle.sets.proofs.Digits.{digit, digit-below-two, digit-first, digit-next, digit-above, same-digits, digit-of-and, or-kept, or-added, added-is-there, added-elsewhere, taken-is-gone, taken-elsewhere, trailing-below, trailing-is-one, below-trailing, and-takes-lowest}
+use Rattle.sets.proofs.Passing.{sum-at-most, sum-same, sum-first, sum-longer, sum-of-one-more, first-is, first-of-none, kept-same, kept-none, kept-longer, kept-walk, yes-both, every-each, each-every}
 
 -- ---- membership and digits
 module _ (x i : ℕ) where
@@ -141,6 +141,13 @@ module _ (x : ℕ) (h : 1 ≤ x) (l : x < 2 ^ places) where
   unfolding withoutLowest
   others-stay j ne =
       member-same (x - 2 ^ lowestOf x) x j j (taken-elsewhere x (lowestOf x) (digit-of-member x (lowestOf x) lowest-is-member) j ne)
+
+  pub still-member : (j : ℕ) → member (withoutLowest x) j ≡ true → member x j ≡ true
+  still-member j y = go (ℕ-discrete j (lowestOf x))
+    where
+      go : Dec (j ≡ lowestOf x) → member x j ≡ true
+      go (yes e) = absurd (true≢false (sym y ∙ ap (member (withoutLowest x)) e ∙ lowest-goes))
+      go (no ne) = sym (others-stay j ne) ∙ y
 
   -- the number falls
   pub walk-falls : withoutLowest x < x
@@ -282,6 +289,13 @@ module _ (on : ℕ → Bool) where
           ap (λ (s : ℕ). member s i) (step ∙ set-skips n z) ∙ no-member-past n i (omega arith) ∙ sym (ap on e ∙ z)
       go false z (no ne) ih = ap (λ (s : ℕ). member s i) (step ∙ set-skips n z) ∙ ih (omega arith)
 
+  pub in-set : (n i : ℕ) → member (setOf on n) i ≡ true → (i < n) × (on i ≡ true)
+  in-set n i y = go (decLt i n)
+    where
+      go : Dec (i < n) → (i < n) × (on i ≡ true)
+      go (yes l) = (l, sym (member-of-set n i l) ∙ y)
+      go (no l) = absurd (true≢false (sym y ∙ no-member-past n i (omega arith)))
+
   -- so the walk goes over them, in ascending order
   pub members-of-set : {A : Type 0} (of : ℕ → A) (n : ℕ) → n ≤ places → membersOf of (setOf on n) ≡ kept on of n
   members-of-set of n l =
@@ -310,3 +324,66 @@ set-same on on′ n h = sum-same n on on′ (λ (i : ℕ). 2 ^ i) (λ (i : ℕ).
 -- every set is the set of its members
 pub set-of-members : (x : ℕ) → x < 2 ^ places → setOf (member x) places ≡ x
 set-of-members x h = same-members (setOf (member x) places) x (set-below (member x) places) h (λ i l. member-of-set (member x) places i l)
+
+-- ---- f is asked of each member
+module _ (f : ℕ → Bool) (x : ℕ) where
+  pub each-member : eachIn f x ≡ true → (i : ℕ) → i < places → member x i ≡ true → f i ≡ true
+  each-member e i l y = every-each (member x) f 0 places e i (omega arith) (omega arith) y
+
+  pub all-members : ((i : ℕ) → i < places → member x i ≡ true → f i ≡ true) → eachIn f x ≡ true
+  all-members h = each-every (member x) f 0 places (λ i l g y. h i (omega arith) y)
+
+-- two answers that are yes together are one
+pub same-answer : (a b : Bool) → (a ≡ true → b ≡ true) → (b ≡ true → a ≡ true) → a ≡ b
+same-answer true b f g = sym (f refl)
+same-answer false true f g = g refl
+same-answer false false f g = refl
+
+-- two tests that agree on the members
+pub each-same : (f g : ℕ → Bool) (x : ℕ) → ((i : ℕ) → i < places → member x i ≡ true → f i ≡ g i) → eachIn f x ≡ eachIn g x
+each-same f g x h = same-answer _ _
+    (λ e. all-members g x (λ i l y. sym (h i l y) ∙ each-member f x e i l y))
+    (λ e. all-members f x (λ i l y. h i l y ∙ each-member g x e i l y))
+
+-- a member more
+pub each-with : (f : ℕ → Bool) (x i : ℕ) → i < places → eachIn f (withMember x i) ≡ (eachIn f x && f i)
+each-with f x i l = same-answer _ _ (λ e. both (old e) (each-member f _ e i l (with-has-it x i))) (λ e. all-members f _ (new e))
+  where
+    both : {a b : Bool} → a ≡ true → b ≡ true → (a && b) ≡ true
+    both p q = rw (p, q)
+
+    member-too : (j : ℕ) → member x j ≡ true → member (withMember x i) j ≡ true
+    member-too j y = go (ℕ-discrete j i)
+      where
+        go : Dec (j ≡ i) → member (withMember x i) j ≡ true
+        go (yes e) = ap (member (withMember x i)) e ∙ with-has-it x i
+        go (no ne) = with-keeps-others x i j ne ∙ y
+
+    old : eachIn f (withMember x i) ≡ true → eachIn f x ≡ true
+    old e = all-members f x (λ j h y. each-member f _ e j h (member-too j y))
+
+    new : (eachIn f x && f i) ≡ true → (j : ℕ) → j < places → member (withMember x i) j ≡ true → f j ≡ true
+    new e j h y = go (ℕ-discrete j i)
+      where
+        go : Dec (j ≡ i) → f j ≡ true
+        go (yes q) = ap f q ∙ yes-both (eachIn f x) (f i) e .1
+        go (no ne) = each-member f x (yes-both (eachIn f x) (f i) e .0) j h (sym (with-keeps-others x i j ne) ∙ y)
+
+-- no member of x is one of y
+pub none-shared : (x y : ℕ) → x < 2 ^ places → y < 2 ^ places → eqb (bitAnd x y) 0 ≡ eachIn (λ (i : ℕ). not (member x i)) y
+none-shared x y hx hy = same-answer _ _ (λ e. all-members _ y (λ i l m. off i m (eqb-true _ _ e))) (λ e. eq-eqb _ _ (nothing e))
+  where
+    off : (i : ℕ) → member y i ≡ true → bitAnd x y ≡ 0 → not (member x i) ≡ true
+    off i m e = rw (member-no x i (let d = digit-of-and x y i in let z : digit (bitAnd x y) i ≡ 0 = ap (λ n. digit n i) e ∙ ap (λ n. n % 2) (zero-div (2 ^ i)) in omega (arith, digit-of-member y i m, digit-below-two x i)))
+
+    nothing : eachIn (λ (i : ℕ). not (member x i)) y ≡ true → bitAnd x y ≡ 0
+    nothing e = same-digits places (bitAnd x y) 0 (and-lt places x y hx hy) (pow-pos places) (λ i l. go i l (member y i) refl)
+      where
+        zero-digit : (i : ℕ) → digit 0 i ≡ 0
+        zero-digit i = ap (λ n. n % 2) (zero-div (2 ^ i))
+
+        go : (i : ℕ) → i < places → (b : Bool) → member y i ≡ b → digit (bitAnd x y) i ≡ digit 0 i
+        go i l true m =
+            let o : digit x i ≡ 0 = digit-of-none x i (not-true _ (each-member _ y e i l m)) in
+            omega (arith, digit-of-and x y i, zero-digit i)
+        go i l false m = omega (arith, digit-of-and x y i, zero-digit i, digit-of-none y i m)

@@ -2,14 +2,14 @@
 -- Assumes nothing.
 use mathlib.Core.Path.{_≡_, refl, ap, _∙_, sym}
 use mathlib.Core.Logic.{_≢_}
-use mathlib.Core.Bool.{Bool, true, false, cond}
+use mathlib.Core.Bool.{Bool, true, false, cond, _&&_, true≢false}
 use mathlib.Core.List.{[], _∷_}
 use Prim.Native.Nat.{ℕ, zero, suc, _+_, _*_, _≤_, _<_}
 use native.Mathlib.Nat.{add-zero, suc-mul}
 use native.Mathlib.Decide.{ℕ-discrete}
 use native.Mathlib.Omega.{arith}
 use lib.Arith.{lt-of-le-ne}
-use Rattle.sets.specs.Members.{sumBelow, firstFrom, keptFrom}
+use Rattle.sets.specs.Members.{sumBelow, firstFrom, keptFrom, every}
 
 -- ---- sums
 pub sum-same : (n : ℕ) (on on′ : ℕ → Bool) (g h : ℕ → ℕ) → ((i : ℕ) → i < n → on i ≡ on′ i) → ((i : ℕ) → i < n → g i ≡ h i)
@@ -128,3 +128,29 @@ module _ {A : Type 0} (of : ℕ → A) where
           let p = n i m in
           let q : on′ i ≡ false = same i ne ∙ p in
           rw (p, q) (ih m)
+
+-- ---- each of those that pass `on` passes f
+pub yes-both : (a b : Bool) → (a && b) ≡ true → (a ≡ true) × (b ≡ true)
+yes-both true b e = (refl, e)
+yes-both false b e = absurd (true≢false (sym e))
+
+pub every-each : (on f : ℕ → Bool) (i k : ℕ) → every (keptFrom on f i k) ≡ true → (j : ℕ) → i ≤ j → j < i + k → on j ≡ true → f j ≡ true
+unfolding every keptFrom
+every-each on f i zero e j l h y = absurd (omega arith)
+every-each on f i (suc k) e j l h y = go (ℕ-discrete i j) (on i) refl e (λ r m. every-each on f (suc i) k r j m (omega arith) y)
+  where
+    go : Dec (i ≡ j) → (b : Bool) → on i ≡ b → every (cond b (f i ∷ keptFrom on f (suc i) k) (keptFrom on f (suc i) k)) ≡ true
+        → (every (keptFrom on f (suc i) k) ≡ true → i < j → f j ≡ true) → f j ≡ true
+    go (yes q) true p e ih = rw q at (yes-both (f i) (every (keptFrom on f (suc i) k)) e .0)
+    go (yes q) false p e ih = absurd (true≢false (sym y ∙ ap on (sym q) ∙ p))
+    go (no q) true p e ih = ih (yes-both (f i) (every (keptFrom on f (suc i) k)) e .1) (lt-of-le-ne l q)
+    go (no q) false p e ih = ih e (lt-of-le-ne l q)
+
+pub each-every : (on f : ℕ → Bool) (i k : ℕ) → ((j : ℕ) → i ≤ j → j < i + k → on j ≡ true → f j ≡ true) → every (keptFrom on f i k) ≡ true
+unfolding every keptFrom
+each-every on f i zero h = refl
+each-every on f i (suc k) h = go (on i) refl (each-every on f (suc i) k (λ j l g y. h j (omega arith) (omega arith) y))
+  where
+    go : (b : Bool) → on i ≡ b → every (keptFrom on f (suc i) k) ≡ true → every (cond b (f i ∷ keptFrom on f (suc i) k) (keptFrom on f (suc i) k)) ≡ true
+    go true p r = rw (h i (omega arith) (omega arith) p) r
+    go false p r = r

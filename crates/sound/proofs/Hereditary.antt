@@ -10,6 +10,7 @@ use lib.ListN.{length, take, getD, length-append, length-map, List·getD-append}
 use lib.Seq.{getD-take, length-take-le}
 use lib.Dec.{leb}
 use borrow.Author.Tests.{le-leb, leb-true}
+use Rattle.sets.proofs.Laws.{same-answer}
 use Rattle.model.specs.Columns.{periodsOf, budgetsOf, memoriesOf}
 use Rattle.model.specs.declared.records.Sheet.{Sheet}
 use Rattle.judge.specs.Constraints.{at, isOn, moduleAt, totalOn, hostedOn, hops, chainDelay, c4, c5, c8}
@@ -20,12 +21,6 @@ use Rattle.tries.proofs.Placements.{pairs-modules, pairs-starts, length-pairs}
 use Rattle.sound.specs.Sound.{sound, soundAt, modulesIn, startsIn}
 use Rattle.sound.proofs.Passed.{Passed, sound-passed, passed-sound}
 use Rattle.sound.proofs.Alike.{Alike, passed-alike}
-
--- two tests that pass together are one
-pub same-test : (a b : Bool) → (a ≡ true → b ≡ true) → (b ≡ true → a ≡ true) → a ≡ b
-same-test true b f g = sym (f refl)
-same-test false true f g = g refl
-same-test false false f g = refl
 
 -- what is at most a limit with something more is at most it
 pub less-at-most : (a b c : ℕ) → leb (a + b) c ≡ true → leb a c ≡ true
@@ -86,7 +81,7 @@ module _ (s : Sheet) (delays : List (List ℕ)) where
   unfolding sound
   placed-sound j ms ts l k =
       rw (pairs-modules (take j ms) (take j ts) same, pairs-starts (take j ms) (take j ts) same, length-pairs (take j ms) (take j ts) same ∙ length-take-le j ms l)
-      (same-test _ _
+      (same-answer _ _
       (λ e. passed-sound s delays ms ts j (passed-alike s delays (take j ms) (take j ts) ms ts j (front ms) (front ts) (sound-passed s delays (take j ms) (take j ts) j e)))
       (λ e. passed-sound s delays (take j ms) (take j ts) j (passed-alike s delays ms ts (take j ms) (take j ts) j (λ i h. sym (front ms i h)) (λ i h. sym (front ts i h)) (sound-passed s delays ms ts j e))))
     where

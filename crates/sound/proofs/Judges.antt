@@ -1,6 +1,6 @@
 -- After sound placements the code's test of one more says whether the plan with it is sound. Assumes nothing.
 use mathlib.Core.Path.{_≡_, refl, sym, _∙_, ap, ap₂}
-use mathlib.Core.Bool.{Bool, true, false, cond, not, _&&_, _||_, and-true}
+use mathlib.Core.Bool.{Bool, true, false, cond, not, _&&_, _||_}
 use mathlib.Core.List.{List, [], _∷_}
 use Prim.Native.Nat.{ℕ, zero, suc, _+_, _-_, _<_, _≤_}
 use native.Mathlib.Omega.{arith}
@@ -11,6 +11,8 @@ use lib.ListN.{getD}
 use borrow.Author.Tests.{lt-ltb, ltb-true, le-leb, eq-eqb, ne-eqb, eqb-true}
 use Rattle.euclid.specs.Euclid.{gcdOf}
 use Rattle.overlap.specs.Overlap.{clearBy}
+use Rattle.sets.specs.Members.{places, member, eachIn}
+use Rattle.sets.proofs.Laws.{same-answer, member-of-set, in-set, each-member, all-members}
 use Rattle.model.specs.Fair.{Fair}
 use Rattle.model.specs.Columns.{periodsOf, budgetsOf, memoriesOf}
 use Rattle.model.specs.declared.records.Sheet.{Sheet}
@@ -18,9 +20,10 @@ use Rattle.judge.specs.Places.{passes}
 use Rattle.judge.specs.Constraints.{at, isOn, moduleAt, cabinetOf, totalOn, hostedOn, chainDelay, c1, c2, c3, c4, c5, c6, c7, c8}
 use Rattle.judge.specs.Verdict.{exclusionAt, chainAt}
 use Rattle.sound.specs.Sound.{soundAt, startsOf}
-use Rattle.sound.specs.Desk.{cell, deskOf, largest, pairAt, divisorsOf, roomsOf, exclusionsOf, chainsOf, membersOf, clearAt, clearOf, roomFor, partedAt, partedOf, admitsOn, keptAt, keptOf, fitsBy}
-use Rattle.sound.proofs.Passed.{Passed, sound-passed, passed-sound, both, fore, rest, asked, answered, each, all}
-use Rattle.sound.proofs.Hereditary.{same-test, fewer-passed}
+use Rattle.sound.specs.Desk.{cell, deskOf, largest, pairAt, divisorsOf, roomsOf, exclusionsOf, chainsOf, membersOf, clearAt, clearOf, roomFor, pairsAt, partnersIn, elsewhere, farther, partedOf, admitsOn, completedBy, keptAt, keptOf, fitsBy}
+use Rattle.sound.proofs.Passed.{Passed, sound-passed, passed-sound, both, fore, rest, each, all}
+use Rattle.sound.proofs.Partners.{each-partner}
+use Rattle.sound.proofs.Hereditary.{fewer-passed}
 use Rattle.sound.proofs.Exact.{budget-within}
 use Rattle.sound.proofs.Tables.{room-at, exclusion-at, chain-at, members-at, divisor-at, member-at-most, largest-below}
 
@@ -40,12 +43,6 @@ other-total column ms m j ne = rw (ne-eqb (at ms j) m ne) (omega arith)
 other-hosted : (ms : List ℕ) (m j : ℕ) → (at ms j ≡ m → ⊥) → hostedOn ms m (suc j) ≡ hostedOn ms m j
 unfolding hostedOn
 other-hosted ms m j ne = rw (ne-eqb (at ms j) m ne) (omega arith)
-
--- a module exclusion or a cabinet exclusion
-one-kind : (kind : ℕ) (a b : Bool) → kind < 2 → cond (eqb kind 0) a b ≡ ((not (eqb kind 0) || a) && (not (eqb kind 1) || b))
-one-kind zero a b h = sym (and-true a)
-one-kind (suc zero) a b h = refl
-one-kind (suc (suc k)) a b h = absurd (omega arith)
 
 module _ (s : Sheet) (delays : List (List ℕ)) (fair : Fair s delays) (ms ts : List ℕ) (j : ℕ) (l : j < s .head .partitions)
     (below : (i : ℕ) → i < suc j → at ms i < s .head .modules) where
@@ -73,28 +70,52 @@ module _ (s : Sheet) (delays : List (List ℕ)) (fair : Fair s delays) (ms ts : 
   unfolding roomFor c4 c5 hostedOn totalOn
   room-is = rw (eq-eqb (at ms j) (at ms j) refl, room-at s delays fair (at ms j) (below j (omega arith)))
 
-  parted-is : (x : ℕ) → x < s .head .exclusions → exclusionAt s x .second ≡ j
-      → partedAt (roomsOf s) (exclusionsOf s) ms (at ms j) j x ≡ (c6 ms (exclusionAt s x) && c7 (s .modules) ms (exclusionAt s x))
-  unfolding partedAt c6 c7
-  parted-is x h e =
+  -- an exclusion whose second partition is j says what C6 and C7 say
+  near-is : (x : ℕ) → x < s .head .exclusions → exclusionAt s x .second ≡ j
+      → (not (pairsAt (exclusionsOf s) 0 j x) || elsewhere ms (at ms j) (cell (exclusionsOf s) x 1)) ≡ c6 ms (exclusionAt s x)
+  unfolding c6 pairsAt
+  near-is x h e = rw (exclusion-at s delays fair x h, eq-eqb (exclusionAt s x .second) j e, ← e)
+
+  far-is : (x : ℕ) → x < s .head .exclusions → exclusionAt s x .second ≡ j
+      → (not (pairsAt (exclusionsOf s) 1 j x) || farther (roomsOf s) ms (at ms j) (cell (exclusionsOf s) x 1)) ≡ c7 (s .modules) ms (exclusionAt s x)
+  unfolding c7 pairsAt farther
+  far-is x h e =
       let x-fair = fair .exclusions x h in
       let first : at ms (exclusionAt s x .first) < s .head .modules = below (exclusionAt s x .first) (omega arith) in
       rw (exclusion-at s delays fair x h, eq-eqb (exclusionAt s x .second) j e, room-at s delays fair (at ms (exclusionAt s x .first)) first, room-at s delays fair (at ms j) (below j (omega arith)), ← e)
-      (one-kind (exclusionAt s x .kind) _ _ (x-fair .kind))
 
-  kept-is : (c : ℕ) → c < s .head .chains
-      → keptAt T B (chainsOf s) (membersOf s) delays ms j c ≡ (not (eqb (largest (chainAt s c .members) (chainAt s c .length)) j) || c8 T B delays ms (chainAt s c))
-  unfolding keptAt c8
+  kept-is : (c : ℕ) → c < s .head .chains → keptAt T B (chainsOf s) (membersOf s) delays ms c ≡ c8 T B delays ms (chainAt s c)
+  unfolding c8 keptAt
   kept-is c h = rw (chain-at s delays fair c h, members-at s delays fair c h)
+
+  -- what holds of the partners of j holds of each exclusion whose second partition is j
+  partners-are : (kind : ℕ) (f : ℕ → Bool)
+      → eachIn f (partnersIn (exclusionsOf s) kind j (s .head .exclusions))
+      ≡ passes (λ x. not (pairsAt (exclusionsOf s) kind j x) || f (cell (exclusionsOf s) x 1)) (s .head .exclusions)
+  partners-are kind f = each-partner (exclusionsOf s) kind j f (s .head .exclusions)
+      (λ x h e. rw (exclusion-at s delays fair x h) (let x-fair = fair .exclusions x h in let n = fair .head .inside .partitions in omega (arith, rw (exclusion-at s delays fair x h) at e)))
+
+  -- an exclusion whose second partition is another says nothing of j
+  of-j : (kind : ℕ) (a : Bool) (x : ℕ) → x < s .head .exclusions → (exclusionAt s x .second ≡ j → (not (pairsAt (exclusionsOf s) kind j x) || a) ≡ true)
+      → (not (pairsAt (exclusionsOf s) kind j x) || a) ≡ true
+  unfolding pairsAt
+  of-j kind a x h f = go (ℕ-discrete (exclusionAt s x .second) j)
+    where
+      go : Dec (exclusionAt s x .second ≡ j) → (not (pairsAt (exclusionsOf s) kind j x) || a) ≡ true
+      go (yes q) = f q
+      go (no q) = rw (exclusion-at s delays fair x h, ne-eqb (exclusionAt s x .second) j q)
+
+  abbrev near? : Bool
+  near? = eachIn (elsewhere ms (at ms j)) (partnersIn (exclusionsOf s) 0 j (s .head .exclusions))
+
+  abbrev far? : Bool
+  far? = eachIn (farther (roomsOf s) ms (at ms j)) (partnersIn (exclusionsOf s) 1 j (s .head .exclusions))
 
   abbrev clear? : Bool
   clear? = clearOf (divisorsOf T (s .head .partitions)) B ms ts j
 
   abbrev room? : Bool
   room? = roomFor (memoriesOf s) (roomsOf s) ms (at ms j) j
-
-  abbrev parted? : Bool
-  parted? = partedOf (roomsOf s) (s .head .exclusions) (exclusionsOf s) ms (at ms j) j
 
   abbrev kept? : Bool
   kept? = keptOf T B (s .head .chains) (chainsOf s) (membersOf s) delays ms j
@@ -108,33 +129,41 @@ module _ (s : Sheet) (delays : List (List ℕ)) (fair : Fair s delays) (ms ts : 
   fits-fitting : fitsBy (deskOf s delays) ms ts j ≡ true → Fitting
   unfolding fitsBy admitsOn clearOf partedOf keptOf
   fits-fitting e =
-      let admitted = fore (room? && parted?) (clear? && kept?) e in
-      let later = rest (room? && parted?) (clear? && kept?) e in
-      let room = sym room-is ∙ fore room? parted? admitted in
+      let admitted = fore (room? && (near? && far?)) (clear? && kept?) e in
+      let later = rest (room? && (near? && far?)) (clear? && kept?) e in
+      let room = sym room-is ∙ fore room? (near? && far?) admitted in
+      let near = sym (partners-are 0 (elsewhere ms (at ms j))) ∙ fore near? far? (rest room? (near? && far?) admitted) in
+      let far = sym (partners-are 1 (farther (roomsOf s) ms (at ms j))) ∙ rest near? far? (rest room? (near? && far?) admitted) in
       record {
         two = λ i h. sym (clear-is i h) ∙ each (clearAt (divisorsOf T (s .head .partitions)) B ms ts j) j (fore clear? kept? later) i h;
         four = rest c5? c4? room;
         five = fore c5? c4? room;
-        six = λ x h q. sym (parted-is x h q) ∙ each (partedAt (roomsOf s) (exclusionsOf s) ms (at ms j) j) (s .head .exclusions) (rest room? parted? admitted) x h;
-        eight = λ c h q. answered (eqb (largest (chainAt s c .members) (chainAt s c .length)) j) (c8 T B delays ms (chainAt s c))
-            (sym (kept-is c h) ∙ each (keptAt T B (chainsOf s) (membersOf s) delays ms j) (s .head .chains) (rest clear? kept? later) c h) (eq-eqb _ _ q);
+        six = λ x h q. both (sym (near-is x h q) ∙ each _ (s .head .exclusions) near x h) (sym (far-is x h q) ∙ each _ (s .head .exclusions) far x h);
+        eight = λ c h q.
+            let few = fair .head .inside .chains in
+            let on : member (completedBy (chainsOf s) j (s .head .chains)) c ≡ true =
+            member-of-set (λ c. eqb (cell (chainsOf s) c 2) j) (s .head .chains) c h ∙ rw (chain-at s delays fair c h) (eq-eqb _ _ q)
+            in
+            sym (kept-is c h) ∙ each-member _ (completedBy (chainsOf s) j (s .head .chains)) (rest clear? kept? later) c (omega arith) on;
       }
 
   fitting-fits : Fitting → fitsBy (deskOf s delays) ms ts j ≡ true
   unfolding fitsBy admitsOn clearOf partedOf keptOf
   fitting-fits f =
-      both (both (room-is ∙ both (f .five) (f .four)) (all (partedAt (roomsOf s) (exclusionsOf s) ms (at ms j) j) (s .head .exclusions) parts))
+      both
+      (both (room-is ∙ both (f .five) (f .four))
+      (both
+      (partners-are 0 (elsewhere ms (at ms j))
+      ∙ all _ (s .head .exclusions) (λ x h. of-j 0 _ x h (λ q. near-is x h q ∙ fore (c6 ms (exclusionAt s x)) (c7 (s .modules) ms (exclusionAt s x)) (f .six x h q))))
+      (partners-are 1 (farther (roomsOf s) ms (at ms j))
+      ∙ all _ (s .head .exclusions) (λ x h. of-j 1 _ x h (λ q. far-is x h q ∙ rest (c6 ms (exclusionAt s x)) (c7 (s .modules) ms (exclusionAt s x)) (f .six x h q))))))
       (both (all (clearAt (divisorsOf T (s .head .partitions)) B ms ts j) j (λ i h. clear-is i h ∙ f .two i h))
-      (all (keptAt T B (chainsOf s) (membersOf s) delays ms j) (s .head .chains)
-      (λ c h. kept-is c h ∙ asked (eqb (largest (chainAt s c .members) (chainAt s c .length)) j) (c8 T B delays ms (chainAt s c)) (λ e. f .eight c h (eqb-true _ _ e)))))
+      (all-members _ (completedBy (chainsOf s) j (s .head .chains)) chains))
     where
-      -- an exclusion whose second partition is another says nothing of j
-      parts : (x : ℕ) → x < s .head .exclusions → partedAt (roomsOf s) (exclusionsOf s) ms (at ms j) j x ≡ true
-      parts x h = go (ℕ-discrete (exclusionAt s x .second) j)
-        where
-          go : Dec (exclusionAt s x .second ≡ j) → partedAt (roomsOf s) (exclusionsOf s) ms (at ms j) j x ≡ true
-          go (yes q) = parted-is x h q ∙ f .six x h q
-          go (no q) = unfold partedAt in rw (exclusion-at s delays fair x h, ne-eqb (exclusionAt s x .second) j q)
+      chains : (c : ℕ) → c < places → member (completedBy (chainsOf s) j (s .head .chains)) c ≡ true → keptAt T B (chainsOf s) (membersOf s) delays ms c ≡ true
+      chains c l y =
+          let on = in-set (λ c. eqb (cell (chainsOf s) c 2) j) (s .head .chains) c y in
+          kept-is c (on .0) ∙ f .eight c (on .0) (eqb-true _ _ (rw (chain-at s delays fair c (on .0)) at (on .1)))
 
   module _ (within : at ts j < startsOf s j) where
     fits-passed : Passed s delays ms ts j → Fitting → Passed s delays ms ts (suc j)
@@ -184,7 +213,7 @@ module _ (s : Sheet) (delays : List (List ℕ)) (fair : Fair s delays) where
   -- the law of the code's test
   pub judges : (j : ℕ) (ms ts : List ℕ) → j < s .head .partitions → at ms j < s .head .modules → at ts j < startsOf s j
       → soundAt s delays ms ts j ≡ true → fitsBy (deskOf s delays) ms ts j ≡ soundAt s delays ms ts (suc j)
-  judges j ms ts l on within e = same-test _ _
+  judges j ms ts l on within e = same-answer _ _
       (λ f. passed-sound s delays ms ts (suc j) (fits-passed s delays fair ms ts j l below within passed (fits-fitting s delays fair ms ts j l below f)))
       (λ f. fitting-fits s delays fair ms ts j l below (passed-fitting s delays fair ms ts j l below (sound-passed s delays ms ts (suc j) f)))
     where

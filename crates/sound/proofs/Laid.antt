@@ -13,12 +13,16 @@ use Rattle.model.specs.Limits.{mostModules, mostPartitions, mostMembers}
 use Rattle.model.specs.Fair.{Fair}
 use Rattle.model.specs.Columns.{periodsOf, budgetsOf}
 use Rattle.model.specs.declared.records.Sheet.{Sheet}
-use Rattle.sets.specs.Members.{setOf}
+use lib.Dec.{eqb}
+use borrow.Author.Tests.{eqb-true}
+use Rattle.sets.specs.Members.{member, setOf}
+use Rattle.sets.proofs.Laws.{in-set}
 use Rattle.judge.specs.Constraints.{at, isOn}
 use Rattle.judge.specs.Asked.{Placed, AllPlaced}
 use Rattle.judge.specs.Verdict.{exclusionAt, chainAt}
-use Rattle.sound.specs.Desk.{Desk, deskOf, cell, pairAt, admitsOn}
-use Rattle.sound.specs.Asked.{Divisible, PairPlaced, ChainPlaced, Admissible, Testable, Laid, Ready}
+use Rattle.sound.specs.Desk.{Desk, deskOf, cell, pairAt, partnersIn, admitsOn, completedBy}
+use Rattle.sound.proofs.Partners.{partners-below}
+use Rattle.sound.specs.Asked.{Divisible, ChainPlaced, Admissible, Testable, Laid, Ready}
 use Rattle.sound.proofs.Alike.{Alike, held-alike, admits-alike}
 use Rattle.sound.proofs.Exact.{some-period, budget-within, period-short}
 use Rattle.sound.proofs.Tables.{exclusion-at, chain-at, members-at, divisor-at, member-at-most}
@@ -42,28 +46,33 @@ module _ (count hosts : ℕ) (d : Desk) (ms : List ℕ) (j : ℕ) (r : Ready cou
     placed = λ i l. rw (same i l) (r .placed i l);
   }
 
+  pub inside : j < mostPartitions
+  inside = omega (arith, r .laid .room, r .left)
+
   module _ (m : ℕ) (h : m < hosts) where
     -- it can be asked whether module m admits partition j
-    pub admissible : Admissible (d .excluded) (d .exclusions) ms m j
-    admissible = record {
-      inside = omega (arith, r .laid .room, r .left);
+    pub admissible : {far : ℕ} → far ≡ partnersIn (d .exclusions) 1 j (d .excluded) → Admissible ms m far j
+    admissible e = record {
+      inside = inside;
       on = omega (arith, r .laid .modules);
-      few = r .laid .excluded;
-      placed = λ x l e.
-          let first : cell (d .exclusions) x 1 < j = omega (arith, r .laid .order x l) in
-          record { inside = omega (arith, r .laid .room, r .left); on = omega (arith, r .placed _ first, r .laid .modules) };
+      placed = λ i l y.
+          let before = partners-below (d .exclusions) 1 j (d .excluded) inside (r .laid .order) i l (ap (λ x. member x i) (sym e) ∙ y) in
+          record { inside = l; on = omega (arith, r .placed i before, r .laid .modules) };
     }
 
     -- a try of module m can be tested
-    pub try-testable : Testable (d .divisors) (d .chained) (d .chains) (d .members) (set ms j m) j
-    try-testable = record {
-      inside = omega (arith, r .laid .room, r .left);
+    pub try-testable : {ending : ℕ} → ending ≡ completedBy (d .chains) j (d .chained) → Testable (d .divisors) (d .chains) (d .members) (set ms j m) ending j
+    try-testable e = record {
+      inside = inside;
       divisible = r .laid .divisors j (r .left);
-      few = r .laid .chained;
-      placed = λ c l e. record {
-        length = r .laid .lengths c l;
-        placed = λ i k. on (at (getD (d .members) c []) i) (omega (arith, r .laid .largest c l i k));
-      };
+      placed = λ c l y.
+          let in-it = in-set (λ c. eqb (cell (d .chains) c 2) j) (d .chained) c (ap (λ x. member x c) (sym e) ∙ y) in
+          let last : cell (d .chains) c 2 ≡ j = eqb-true _ _ (in-it .1) in
+          record {
+            inside = omega (arith, in-it .0, r .laid .chained);
+            length = r .laid .lengths c (in-it .0);
+            placed = λ i k. on (at (getD (d .members) c []) i) (omega (arith, r .laid .largest c (in-it .0) i k));
+          };
     }
       where
         on : (i : ℕ) → i < j + 1 → Placed (set ms j m) i
@@ -93,7 +102,7 @@ module _ (count hosts : ℕ) (d : Desk) (ms : List ℕ) (j : ℕ) (r : Ready cou
 
     pub try-admitted : {admitted : Bool} → admitted ≡ admitsOn (d .memories) (d .rooms) (d .excluded) (d .exclusions) ms m j
         → admitted ≡ admitsOn (d .memories) (d .rooms) (d .excluded) (d .exclusions) (set ms j m) (at (set ms j m) j) j
-    try-admitted e = rw there (e ∙ admits-alike ms (set ms j m) m j before _ _ _ _ (r .laid .order))
+    try-admitted e = rw there (e ∙ admits-alike ms (set ms j m) m j before _ _ _ _ inside (r .laid .order))
 
 -- the desk of a fair sheet is laid
 pub fair-laid : (s : Sheet) (delays : List (List ℕ)) → Fair s delays → Laid (s .head .partitions) (s .head .modules) (deskOf s delays)

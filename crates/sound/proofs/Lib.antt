@@ -1,4 +1,5 @@
 pub mod Passed
+pub mod Partners
 pub mod Alike
 pub mod Hereditary
 pub mod Exact

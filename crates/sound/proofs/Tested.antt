@@ -7,12 +7,16 @@ use native.Mathlib.Omega.{arith}
 use lib.Dec.{leb, eqb}
 use lib.ListN.{getD}
 use borrow.Author.Tests.{eq-eqb, ne-eqb, lt-leb, le-leb, not-true, not-false}
-use Rattle.sets.specs.Members.{member, setOf, sizeOf, sumOver, sumBelow, countBelow, withMember, keptFrom, every, eachIn}
-use Rattle.sets.proofs.Laws.{set-with, set-skips, no-member-past, sum-of-set, size-of-set, sum-with, size-with, each-of-set}
+use Rattle.sets.specs.Members.{places, member, setOf, sizeOf, sumOver, sumBelow, countBelow, withMember, keptFrom, every, eachIn}
+use Rattle.sets.proofs.Laws.{each-same, member-of-set, set-with, set-skips, no-member-past, sum-of-set, size-of-set, sum-with, size-with, each-of-set}
 use Rattle.model.specs.Limits.{mostPartitions}
 use Rattle.judge.specs.Constraints.{at, isOn, totalOn, hostedOn, chainDelay}
+use native.Mathlib.Numerals.{add-one}
 use Rattle.judge.specs.Places.{passesFrom}
-use Rattle.sound.specs.Desk.{Desk, cell, clearWith, clearAt, clearOf, roomIn, roomFor, partedAt, admitsOn, keptAt, keptOf, fitsBy}
+use Rattle.judge.proofs.Hosting.{total-is-sum, hosted-is-count}
+use Rattle.sound.specs.Desk.{Desk, cell, clearWith, clearAt, clearOf, roomIn, roomFor, pairsAt, partnersIn, elsewhere, farther, partedOf, admitsOn, completedBy, keptAt, keptOf, fitsBy}
+use Rattle.sound.specs.Asked.{Ordered}
+use Rattle.sound.proofs.Partners.{partners-below}
 
 -- ---- one test after another: the first says no, or the second answers
 module _ (r a b : Bool) (e : r ≡ a) where
@@ -23,16 +27,6 @@ module _ (r a b : Bool) (e : r ≡ a) where
   then-second v f = let q : a ≡ true = sym e ∙ not-false r v in rw q f
 
 -- ---- C4 and C5 by the set of those on the module
-total-is-sum : (column ms : List ℕ) (m n : ℕ) → sumBelow (isOn ms m) (at column) n ≡ totalOn column ms m n
-unfolding totalOn sumBelow
-total-is-sum column ms m zero = refl
-total-is-sum column ms m (suc n) = ap (λ (x : ℕ). x + cond (isOn ms m n) (at column n) 0) (total-is-sum column ms m n)
-
-hosted-is-count : (ms : List ℕ) (m n : ℕ) → countBelow (isOn ms m) n ≡ hostedOn ms m n
-unfolding hostedOn sumBelow
-hosted-is-count ms m zero = refl
-hosted-is-count ms m (suc n) = ap (λ (x : ℕ). x + cond (isOn ms m n) 1 0) (hosted-is-count ms m n)
-
 module _ (memories : List ℕ) (rooms : List (List ℕ)) (m set size : ℕ) (s : size ≡ sizeOf set) where
   pub too-many : cell rooms m 2 < size → false ≡ roomIn memories rooms m set
   unfolding roomIn
@@ -50,35 +44,19 @@ module _ (memories : List ℕ) (rooms : List (List ℕ)) (ms : List ℕ) (m j he
 
   number-is : sizeOf set ≡ hostedOn ms m j + 1
   number-is =
-      let held-is : sizeOf held ≡ hostedOn ms m j = ap sizeOf e ∙ size-of-set (isOn ms m) j (omega arith) ∙ hosted-is-count ms m j in
+      let held-is : sizeOf held ≡ hostedOn ms m j = ap sizeOf e ∙ size-of-set (isOn ms m) j (omega arith) ∙ sym (hosted-is-count ms m j) in
       ap sizeOf w ∙ size-with held j inside new ∙ omega arith
 
   total-is : sumOver (at memories) set ≡ totalOn memories ms m j + at memories j
   total-is =
       let held-is : sumOver (at memories) held ≡ totalOn memories ms m j =
-      ap (sumOver (at memories)) e ∙ sum-of-set (isOn ms m) (at memories) j (omega arith) ∙ total-is-sum memories ms m j
+      ap (sumOver (at memories)) e ∙ sum-of-set (isOn ms m) (at memories) j (omega arith) ∙ sym (total-is-sum memories ms m j)
       in
       ap (sumOver (at memories)) w ∙ sum-with held j inside new (at memories) ∙ omega arith
 
   pub room-is : {here : ℕ} → here ≡ m → roomIn memories rooms here set ≡ roomFor memories rooms ms m j
   unfolding roomIn roomFor
   room-is on = rw (on, number-is, total-is)
-
--- ---- C6 and C7
-module _ (rooms exclusions : List (List ℕ)) (ms : List ℕ) (m j x second : ℕ) (e : second ≡ cell exclusions x 2) where
-  pub parted-other : (second ≡ j → ⊥) → true ≡ partedAt rooms exclusions ms m j x
-  unfolding partedAt
-  parted-other h = rw (← e, ne-eqb second j h)
-
-  module _ (h : second ≡ j) (first : ℕ) (f : first ≡ cell exclusions x 1) where
-    pub parted-module : cell exclusions x 0 ≡ 0 → not (eqb (at ms first) m) ≡ partedAt rooms exclusions ms m j x
-    unfolding partedAt
-    parted-module k = rw (← e, eq-eqb second j h, k, f)
-
-    pub parted-cabinet : (cell exclusions x 0 ≡ 0 → ⊥) → (a b : ℕ) → a ≡ at ms first → b ≡ m
-        → not (eqb (cell rooms a 0) (cell rooms b 0)) ≡ partedAt rooms exclusions ms m j x
-    unfolding partedAt
-    parted-cabinet k a b p q = rw (← e, eq-eqb second j h, ne-eqb (cell exclusions x 0) 0 k, p, q, f)
 
 -- ---- C2 of the set of those on the module
 each-passes : (on f : ℕ → Bool) (k i : ℕ) → every (keptFrom on f i k) ≡ passesFrom (λ n. not (on n) || f n) k i
@@ -101,29 +79,64 @@ clear-is divisors budgets ms ts j held inside e =
     ∙ (each-of-set (isOn ms (at ms j)) (clearWith divisors budgets ts j) j (omega arith)
     ∙ each-passes (isOn ms (at ms j)) (clearWith divisors budgets ts j) j 0)
 
--- ---- C8
-module _ (periods budgets : List ℕ) (chains members delays : List (List ℕ)) (ms : List ℕ) (j c last : ℕ) (e : last ≡ cell chains c 2) where
-  pub kept-other : (last ≡ j → ⊥) → true ≡ keptAt periods budgets chains members delays ms j c
-  unfolding keptAt
-  kept-other h = rw (← e, ne-eqb last j h)
+-- ---- the set of those that pass a test
+module _ (on : ℕ → Bool) (i : ℕ) where
+  pub joins : {set more : ℕ} → set ≡ setOf on i → on i ≡ true → more ≡ withMember set i → more ≡ setOf on (i + 1)
+  joins e y w = w ∙ ap (λ x. withMember x i) e ∙ sym (set-with on i y)
 
-  pub kept-last : last ≡ j → (length delay limit : ℕ) → length ≡ cell chains c 1 → delay ≡ chainDelay periods budgets delays ms (getD members c []) length
-      → limit ≡ cell chains c 0 → leb delay limit ≡ keptAt periods budgets chains members delays ms j c
-  unfolding keptAt
-  kept-last h length delay limit l d m = rw (← e, eq-eqb last j h, d, l, m)
+  pub stays-out : {set : ℕ} → set ≡ setOf on i → on i ≡ false → set ≡ setOf on (i + 1)
+  stays-out e n = e ∙ sym (set-skips on i n)
 
--- ---- the set of those on the module
-module _ (ms : List ℕ) (m i : ℕ) where
-  pub joins : {set more : ℕ} → set ≡ setOf (isOn ms m) i → at ms i ≡ m → more ≡ withMember set i → more ≡ setOf (isOn ms m) (i + 1)
-  joins e on w = w ∙ ap (λ x. withMember x i) e ∙ sym (set-with (isOn ms m) i (eq-eqb (at ms i) m on))
+-- ---- C7 of one partition, C8 of one chain
+pub far-is : (rooms : List (List ℕ)) (ms : List ℕ) (m i : ℕ) {there here : ℕ} → there ≡ at ms i → here ≡ m
+    → not (eqb (cell rooms there 0) (cell rooms here 0)) ≡ farther rooms ms m i
+unfolding farther
+far-is rooms ms m i a b = rw (a, b)
 
-  pub stays-out : {set : ℕ} → set ≡ setOf (isOn ms m) i → (at ms i ≡ m → ⊥) → set ≡ setOf (isOn ms m) (i + 1)
-  stays-out e off = e ∙ sym (set-skips (isOn ms m) i (ne-eqb (at ms i) m off))
+pub kept-is : (periods budgets : List ℕ) (chains members delays : List (List ℕ)) (ms : List ℕ) (c : ℕ) {length delay limit : ℕ}
+    → length ≡ cell chains c 1 → delay ≡ chainDelay periods budgets delays ms (getD members c []) length → limit ≡ cell chains c 0
+    → leb delay limit ≡ keptAt periods budgets chains members delays ms c
+unfolding keptAt
+kept-is periods budgets chains members delays ms c l d m = rw (d, l, m)
+
+-- ---- the set of the partners of j
+module _ (exclusions : List (List ℕ)) (kind j x second : ℕ) (s : second ≡ cell exclusions x 2) where
+  pub pairs-second : second ≡ j → eqb (cell exclusions x 0) kind ≡ pairsAt exclusions kind j x
+  unfolding pairsAt
+  pairs-second h = rw (← s, eq-eqb second j h)
+
+  pub pairs-other : (second ≡ j → ⊥) → false ≡ pairsAt exclusions kind j x
+  unfolding pairsAt
+  pairs-other h = rw (← s, ne-eqb second j h)
+
+module _ (exclusions : List (List ℕ)) (kind j x : ℕ) {set : ℕ} {p : Bool} (e : set ≡ partnersIn exclusions kind j x) (q : p ≡ pairsAt exclusions kind j x) where
+  pub partner-joins : p ≡ true → {first more : ℕ} → first ≡ cell exclusions x 1 → more ≡ withMember set first → more ≡ partnersIn exclusions kind j (x + 1)
+  unfolding partnersIn
+  partner-joins y f w = rw (add-one x, ← q, y) (w ∙ rw (f, e))
+
+  pub no-partner : p ≡ false → set ≡ partnersIn exclusions kind j (x + 1)
+  unfolding partnersIn
+  no-partner n = rw (add-one x, ← q, n) e
+
+-- ---- C4 to C7 by the sets of those on the module and of the partners
+pub admits-is : (memories : List ℕ) (rooms : List (List ℕ)) (ms : List ℕ) (m j held apart far excluded : ℕ) (exclusions : List (List ℕ))
+    → j < mostPartitions → Ordered exclusions excluded → held ≡ setOf (isOn ms m) j → apart ≡ partnersIn exclusions 0 j excluded
+    → far ≡ partnersIn exclusions 1 j excluded
+    → (roomIn memories rooms m (withMember held j) && (eachIn (λ (i : ℕ). not (member held i)) apart && eachIn (farther rooms ms m) far))
+    ≡ admitsOn memories rooms excluded exclusions ms m j
+unfolding admitsOn partedOf
+admits-is memories rooms ms m j held apart far excluded exclusions inside order h a f =
+    rw (room-is memories rooms ms m j held (withMember held j) inside h refl {here = m} refl, a, f, each-same _ _ _ off)
+  where
+    off : (i : ℕ) → i < places → member (partnersIn exclusions 0 j excluded) i ≡ true → not (member held i) ≡ elsewhere ms m i
+    off i l y = ap not (ap (λ x. member x i) h ∙ member-of-set (isOn ms m) j i (partners-below exclusions 0 j excluded inside order i l y))
 
 -- ---- the tests together
-pub by-parts : (d : Desk) (ms ts : List ℕ) (j : ℕ) {fits admitted : Bool}
-    → fits ≡ (admitted && (clearOf (d .divisors) (d .budgets) ms ts j && keptOf (d .periods) (d .budgets) (d .chained) (d .chains) (d .members) (d .delays) ms j))
-    → admitted ≡ admitsOn (d .memories) (d .rooms) (d .excluded) (d .exclusions) ms (at ms j) j → fits ≡ fitsBy d ms ts j
-unfolding fitsBy
-by-parts d ms ts j f a =
-    f ∙ ap (λ b. b && (clearOf (d .divisors) (d .budgets) ms ts j && keptOf (d .periods) (d .budgets) (d .chained) (d .chains) (d .members) (d .delays) ms j)) a
+pub by-parts : (d : Desk) (ms ts : List ℕ) (j : ℕ) {fits admitted : Bool} {ending : ℕ}
+    → fits ≡ (admitted && (clearOf (d .divisors) (d .budgets) ms ts j && eachIn (keptAt (d .periods) (d .budgets) (d .chains) (d .members) (d .delays) ms) ending))
+    → admitted ≡ admitsOn (d .memories) (d .rooms) (d .excluded) (d .exclusions) ms (at ms j) j → ending ≡ completedBy (d .chains) j (d .chained)
+    → fits ≡ fitsBy d ms ts j
+unfolding fitsBy keptOf
+by-parts d ms ts j f a e =
+    f
+    ∙ ap₂ (λ b set. b && (clearOf (d .divisors) (d .budgets) ms ts j && eachIn (keptAt (d .periods) (d .budgets) (d .chains) (d .members) (d .delays) ms) set)) a e

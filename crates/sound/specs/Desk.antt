@@ -7,7 +7,7 @@ use Prim.Native.Nat.{ℕ, zero, suc, _+_, _-_, _*_, _/_, _%_}
 use lib.Dec.{leb, ltb, eqb}
 use lib.ListN.{getD, replicate}
 use Rattle.lists.specs.Filled.{filled}
-use Rattle.sets.specs.Members.{sizeOf, sumOver}
+use Rattle.sets.specs.Members.{setOf, sizeOf, sumOver, withMember, eachIn}
 use Rattle.euclid.specs.Euclid.{gcdOf}
 use Rattle.overlap.specs.Overlap.{clearBy}
 use Rattle.model.specs.Limits.{mostModules, mostPartitions, mostExclusions, mostChains, mostMembers}
@@ -122,29 +122,45 @@ roomIn memories rooms m set = leb (sizeOf set) (cell rooms m 2) && leb (sumOver 
 unfoldable pub roomFor : (memories : List ℕ) (rooms : List (List ℕ)) (ms : List ℕ) → (m j : ℕ) → Bool
 roomFor memories rooms ms m j = leb (hostedOn ms m j + 1) (cell rooms m 2) && leb (totalOn memories ms m j + at memories j) (cell rooms m 1)
 
--- C6 or C7 of exclusion x, where j is its second partition and is on module m
-unfoldable pub partedAt : (rooms exclusions : List (List ℕ)) (ms : List ℕ) → (m j x : ℕ) → Bool
-partedAt rooms exclusions ms m j x =
-    not (eqb (cell exclusions x 2) j)
-    || cond (eqb (cell exclusions x 0) 0)
-    (not (eqb (at ms (cell exclusions x 1)) m))
-    (not (eqb (cell rooms (at ms (cell exclusions x 1)) 0) (cell rooms m 0)))
+-- exclusion x is of a kind, and its second partition is j
+unfoldable pub pairsAt : (exclusions : List (List ℕ)) → (kind j x : ℕ) → Bool
+pairsAt exclusions kind j x = eqb (cell exclusions x 2) j && eqb (cell exclusions x 0) kind
 
+-- the first partitions of those of the first n exclusions that are so
+unfoldable pub partnersIn : (exclusions : List (List ℕ)) → (kind j n : ℕ) → ℕ
+partnersIn exclusions kind j zero = 0
+partnersIn exclusions kind j (suc n) =
+    cond (pairsAt exclusions kind j n) (withMember (partnersIn exclusions kind j n) (cell exclusions n 1)) (partnersIn exclusions kind j n)
+
+-- C6 of partition i and one on module m
+abbrev pub elsewhere : (ms : List ℕ) → (m i : ℕ) → Bool
+elsewhere ms m i = not (eqb (at ms i) m)
+
+-- and C7
+unfoldable pub farther : (rooms : List (List ℕ)) (ms : List ℕ) → (m i : ℕ) → Bool
+farther rooms ms m i = not (eqb (cell rooms (at ms i) 0) (cell rooms m 0))
+
+-- C6 and C7 of the exclusions whose second partition is j, which is on module m
 unfoldable pub partedOf : (rooms : List (List ℕ)) → ℕ → (exclusions : List (List ℕ)) (ms : List ℕ) → (m j : ℕ) → Bool
-partedOf rooms excluded exclusions ms m j = passes (partedAt rooms exclusions ms m j) excluded
+partedOf rooms excluded exclusions ms m j =
+    eachIn (elsewhere ms m) (partnersIn exclusions 0 j excluded) && eachIn (farther rooms ms m) (partnersIn exclusions 1 j excluded)
 
 -- module m admits partition j, whatever its start
 unfoldable pub admitsOn : (memories : List ℕ) (rooms : List (List ℕ)) → ℕ → (exclusions : List (List ℕ)) (ms : List ℕ) → (m j : ℕ) → Bool
 admitsOn memories rooms excluded exclusions ms m j = roomFor memories rooms ms m j && partedOf rooms excluded exclusions ms m j
 
--- C8 of chain c, where j is its largest member
-unfoldable pub keptAt : (periods budgets : List ℕ) (chains members delays : List (List ℕ)) (ms : List ℕ) → (j c : ℕ) → Bool
-keptAt periods budgets chains members delays ms j c =
-    not (eqb (cell chains c 2) j)
-    || leb (chainDelay periods budgets delays ms (getD members c []) (cell chains c 1)) (cell chains c 0)
+-- the chains of the first n whose largest member is j
+abbrev pub completedBy : (chains : List (List ℕ)) → (j n : ℕ) → ℕ
+completedBy chains j n = setOf (λ c. eqb (cell chains c 2) j) n
 
+-- C8 of chain c
+unfoldable pub keptAt : (periods budgets : List ℕ) (chains members delays : List (List ℕ)) (ms : List ℕ) → ℕ → Bool
+keptAt periods budgets chains members delays ms c =
+    leb (chainDelay periods budgets delays ms (getD members c []) (cell chains c 1)) (cell chains c 0)
+
+-- C8 of the chains that are complete with partition j
 unfoldable pub keptOf : (periods budgets : List ℕ) → ℕ → (chains members delays : List (List ℕ)) (ms : List ℕ) → ℕ → Bool
-keptOf periods budgets chained chains members delays ms j = passes (keptAt periods budgets chains members delays ms j) chained
+keptOf periods budgets chained chains members delays ms j = eachIn (keptAt periods budgets chains members delays ms) (completedBy chains j chained)
 
 -- the placement of partition j fits those of the partitions before it
 unfoldable pub fitsBy : Desk → (ms ts : List ℕ) → ℕ → Bool

@@ -118,6 +118,22 @@ fn many_modules() -> Sheet {
     sheet
 }
 
+/// The most partitions, exclusions and chains, with room everywhere: the tries fail at the chain that the last partition completes.
+fn many_constraints() -> Sheet {
+    let mut random = Random::new(78);
+    let mut sheet = sheet(16, (0..64).map(|_| partition(100, 1)).collect());
+    for _ in 0..400 {
+        let second = random.between(1, 61) as usize;
+        let first = random.below(second as u64) as usize;
+        sheet.exclusions.push(Exclusion { cabinet: false, first, second });
+    }
+    for start in 0..31 {
+        sheet.chains.push(Chain { limit: 100_000, members: vec![start, 32, 33, 34, 60] });
+    }
+    sheet.chains.push(Chain { limit: 10, members: vec![31, 32, 33, 34, 63] });
+    sheet
+}
+
 fn tries(name: &str, sheet: &Sheet) {
     const BUDGET: u32 = 400_000;
     let bytes = sheet_bytes(sheet);
@@ -235,6 +251,7 @@ pub fn run() -> ! {
     tries("tries: 8 partitions, periods of some hundreds, 2 modules", &short_periods());
     tries("tries: 6 partitions, periods of some ten thousands, 2 modules", &long_periods());
     tries("tries: 40 partitions, 16 modules, 60 exclusions, 8 chains", &many_modules());
+    tries("tries: 64 partitions, 16 modules, 400 exclusions, 32 chains", &many_constraints());
     println!("\nmedians of {ROUNDS} measurements of at least {SECONDS} s each, product and fast form turn by turn");
     std::process::exit(0)
 }

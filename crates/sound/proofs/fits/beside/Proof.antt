@@ -2,6 +2,7 @@ use mathlib.Core.Path.{_≡_, refl, sym, _∙_, ap}
 use mathlib.Core.Logic.{⊎-elim}
 use Prim.Native.Nat.{ℕ, _+_, _-_, _≤_, _<_}
 use native.Mathlib.Omega.{arith}
+use borrow.Author.Tests.{eq-eqb, ne-eqb}
 use Rattle.sets.specs.Members.{setOf, sumBelow}
 use Rattle.judge.specs.Constraints.{at, isOn}
 use Rattle.sound.proofs.Tested.{joins, stays-out}
@@ -39,10 +40,11 @@ loop-less c = omega arith
 loop-again : tie.Need-loop-again Inv-loop μ-loop
 loop-again c =
     let l = c .before .before .before .loop in
-    let start = c .before .before .before .before in (
+    let start = c .before .before .before .before in
+    let on = isOn (start .args .modules .now) (start .args .m) in (
       omega arith,
-      ⊎-elim (λ w. w .2 ∙ joins (start .args .modules .now) (start .args .m) (l .i) (l .inv .1) (w .0 .taken) (w .1 .ensures))
-          (λ w. w .1 ∙ stays-out (start .args .modules .now) (start .args .m) (l .i) (l .inv .1) (w .0 .left)) (c .if1 .came),
+      ⊎-elim (λ w. w .2 ∙ joins on (l .i) (l .inv .1) (eq-eqb _ _ (w .0 .taken)) (w .1 .ensures))
+          (λ w. w .1 ∙ stays-out on (l .i) (l .inv .1) (ne-eqb _ _ (w .0 .left))) (c .if1 .came),
     )
 
 returns : tie.Need-returns Inv-loop μ-loop
