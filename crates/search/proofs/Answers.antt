@@ -1,6 +1,6 @@
 -- What a call of the search returns and leaves in its buffer, way by way. Assumes nothing.
-use mathlib.Core.Path.{_≡_, refl, sym, _∙_, ap, ap₂}
-use mathlib.Core.Bool.{Bool, true, false, cond}
+use mathlib.Core.Path.{_≡_, refl, sym, _∙_, ap}
+use mathlib.Core.Bool.{true, false}
 use mathlib.Core.List.{List, _++_}
 use Prim.Native.Nat.{ℕ, zero, suc, _+_, _<_, _≤_}
 use native.Mathlib.Omega.{arith}
@@ -14,7 +14,6 @@ use Rattle.model.specs.Limits.{mostPartitions}
 use Rattle.model.specs.Decoded.{decodedNumber}
 use Rattle.model.specs.declared.records.Sheet.{Sheet}
 use Rattle.reader.specs.Plan.{planLength, planBytes, withPlacements}
-use Rattle.judge.specs.Constraints.{at}
 use Rattle.tries.specs.Tries.{Answer, found, absent, stopped}
 use Rattle.tries.specs.Code.{Standing, shown, placed}
 use Rattle.tries.proofs.Placements.{pairs-modules, pairs-starts}

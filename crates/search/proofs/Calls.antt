@@ -3,13 +3,13 @@
 use mathlib.Core.Path.{_≡_, refl, sym, _∙_, ap}
 use mathlib.Core.Bool.{Bool, true, false}
 use mathlib.Core.List.{List, _++_}
-use mathlib.Core.Logic.{_⊎_, _↔_}
-use Prim.Native.Nat.{ℕ, zero, suc, _+_, _<_, _≤_}
+use mathlib.Core.Logic.{_↔_}
+use Prim.Native.Nat.{ℕ, _+_, _<_, _≤_}
 use native.Mathlib.Omega.{arith}
 use lib.ListN.{length, drop}
 use lib.Dec.{ltb, eqb}
 use borrow.Author.Tests.{eq-eqb, ne-eqb, le-ltb, ltb-false}
-use Rattle.numbers.specs.First.{met, broken, met-here, met-there, met-none}
+use Rattle.numbers.specs.First.{broken, met-here, met-there, met-none}
 use Rattle.numbers.specs.Numbers as numbers
 use Rattle.model.specs.Decoded.{decodedNumber}
 use Rattle.model.specs.Fair.{Fair}
@@ -19,9 +19,9 @@ use Rattle.reader.specs.Plan.{planLength, planBytes}
 use Rattle.tries.specs.Tries.{Answer, found, absent, stopped}
 use Rattle.sound.specs.Sound.{modulesIn, startsIn}
 use Rattle.search.specs.Answer.{answerOf, answered, written, refusalOf, foundOf, bufferAfter}
-use Rattle.search.specs.Meaning.{Plan, FirstPlan, NoPlan, triesOf, neededOf}
+use Rattle.search.specs.Meaning.{FirstPlan, NoPlan, neededOf}
 use Rattle.search.specs.declared.Found.{Found}
-use Rattle.search.proofs.Theorems.{found-first, found-needed, none-exactly, absent-exactly, absent-needed, stopped-exactly, zero-budget-stops}
+use Rattle.search.proofs.Theorems.{found-first, found-needed, absent-exactly, absent-needed, stopped-exactly, zero-budget-stops}
 
 module _ (s : Sheet) (delays : List (List ℕ)) (budget : ℕ) (buffer : List ℕ) where
   abbrev N : ℕ

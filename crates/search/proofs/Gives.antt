@@ -1,6 +1,6 @@
 -- The search that the code runs gives the answer of the definition. Assumes nothing.
-use mathlib.Core.Path.{_≡_, refl, sym, _∙_, ap}
-use mathlib.Core.Bool.{Bool, true}
+use mathlib.Core.Path.{_≡_, sym, _∙_}
+use mathlib.Core.Bool.{true}
 use mathlib.Core.List.{List}
 use Prim.Native.Nat.{ℕ, suc, _+_, _-_, _<_, _≤_}
 use native.Mathlib.Omega.{arith}
@@ -14,10 +14,11 @@ use Rattle.judge.specs.Constraints.{at}
 use Rattle.tries.specs.Code.{Standing, begun, searchOf, placed, shown}
 use Rattle.tries.proofs.TwoArrays.{code-answers}
 use Rattle.tries.proofs.Kept.{search-lengths}
-use Rattle.sound.specs.Sound.{startsOf, sound, soundAt}
+use Rattle.sound.specs.Sound.{startsOf, sound}
 use Rattle.search.specs.Answer.{answerOf}
-use Rattle.sound.specs.Desk.{Desk, desk, deskOf, fitsBy, widthOf, divisorsOf, roomsOf, exclusionsOf, chainsOf, membersOf}
-use Rattle.sound.specs.Asked.{Ready}
+use Rattle.sound.specs.Desk.{Desk, desk, deskOf, fitsBy, widthOf, divisorsOf, roomsOf, exclusionsOf, partnersOf, chainsOf, endingsOf, membersOf}
+use Rattle.sound.specs.Asked.{Ready, Ordered}
+use Rattle.sound.proofs.Tables.{ordered}
 use Rattle.search.specs.Standing.{Ran}
 use Rattle.sound.proofs.Hereditary.{hereditary, placed-sound}
 use Rattle.sound.proofs.Judges.{judges}
@@ -39,15 +40,20 @@ module _ (s : Sheet) (delays : List (List ℕ)) (fair : Fair s delays) where
           judges s delays fair j ms ts h on within (sym (placed-sound s delays j ms ts (omega arith) (omega arith)) ∙ e)
           ∙ sym (rw add-one (placed-sound s delays (suc j) ms ts (omega arith) (omega arith)))
 
+  pub in-order : {exclusions : List (List ℕ)} → exclusions ≡ exclusionsOf s → Ordered exclusions (s .head .exclusions)
+  in-order e = rw e (ordered s delays fair)
+
   -- ---- the search over arrays that hold the desk
-  module _ {T B memory divisors : List ℕ} {rooms exclusions chains members : List (List ℕ)}
+  module _ {T B memory divisors apart far endings : List ℕ} {rooms exclusions chains members : List (List ℕ)}
       (t : T ≡ periodsOf s) (b : B ≡ budgetsOf s) (m : memory ≡ memoriesOf s) (g : divisors ≡ divisorsOf T N)
-      (r : rooms ≡ roomsOf s) (x : exclusions ≡ exclusionsOf s) (c : chains ≡ chainsOf s) (k : members ≡ membersOf s) where
+      (r : rooms ≡ roomsOf s) (x : exclusions ≡ exclusionsOf s) (a : apart ≡ partnersOf exclusions 0 (s .head .exclusions) N)
+      (f : far ≡ partnersOf exclusions 1 (s .head .exclusions) N) (c : chains ≡ chainsOf s) (e : endings ≡ endingsOf chains (s .head .chains) N)
+      (k : members ≡ membersOf s) where
     abbrev held : Desk
-    held = desk T B memory divisors rooms (s .head .exclusions) exclusions (s .head .chains) chains members delays
+    held = desk T B memory divisors rooms apart far endings chains members delays
 
     held-is : held ≡ deskOf s delays
-    held-is = rw (g, t, b, m, r, x, c, k)
+    held-is = rw (g, t, b, m, r, a, f, x, e, c, k)
 
     -- the search may begin
     pub begins : (ms : List ℕ) → mostPartitions ≤ length ms → Ready N (s .head .modules) held ms 0
@@ -61,11 +67,11 @@ module _ (s : Sheet) (delays : List (List ℕ)) (fair : Fair s delays) where
     -- and gives the answer
     pub ends : (limit : ℕ) (ms ts : List ℕ) → mostPartitions ≤ length ms → mostPartitions ≤ length ts
         → (o : Standing) → o ≡ searchOf N (s .head .modules) (widthOf T B) (fitsBy held) limit (N - 0) 0 (begun 0 ms ts) → Ran s delays limit o
-    ends limit ms ts l q o e =
+    ends limit ms ts l q o same-o =
         let few = fair .head .inside .partitions in
         let none : N - 0 ≡ N = omega arith in
         let same = search-lengths N (s .head .modules) (widthOf T B) (fitsBy held) limit (N - 0) 0 (begun 0 ms ts) in
-        rw e (record {
+        rw same-o (record {
           answer = rw (none, held-is, t, b) (search-gives limit ms ts (omega arith) (omega arith));
           modules = omega (arith, same .modules);
           starts = omega (arith, same .starts);

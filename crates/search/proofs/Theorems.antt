@@ -1,30 +1,25 @@
 -- What the search's answers mean: demand 2 of document 01, second half. First for the answer of the definition, for every sheet whose records are
 -- fair and every budget; then for a call: which number it returns exactly when, with how many tries, and what its buffer holds.
 -- Assumes nothing.
-use mathlib.Core.Path.{_≡_, refl, sym, _∙_, ap}
+use mathlib.Core.Path.{_≡_, refl, sym, _∙_}
 use mathlib.Core.Bool.{Bool, true, false, true≢false}
-use mathlib.Core.List.{List, dropLast, List·Memᴰ, _++_}
-use mathlib.Core.Logic.{_⊎_, _↔_}
+use mathlib.Core.List.{List, dropLast, List·Memᴰ}
+use mathlib.Core.Logic.{_↔_}
 use mathlib.Core.Option.{none}
-use Prim.Native.Nat.{ℕ, zero, suc, _+_, _<_, _≤_}
+use Prim.Native.Nat.{ℕ, _<_, _≤_}
 use native.Mathlib.Omega.{arith}
-use lib.ListN.{length, drop}
-use lib.Dec.{eqb}
-use borrow.Author.Tests.{eq-eqb, ne-eqb}
+use lib.ListN.{length}
 use Rattle.numbers.specs.Numbers as numbers
 use Rattle.model.specs.Fair.{Fair}
 use Rattle.model.specs.declared.records.Sheet.{Sheet}
-use Rattle.model.proofs.Fairness.{number-fair}
-use Rattle.reader.specs.Plan.{planLength, planBytes}
-use Rattle.tries.specs.Tries.{Answer, found, absent, stopped, first, accepted}
+use Rattle.tries.specs.Tries.{found, absent, stopped, first, accepted}
 use Rattle.tries.specs.Order.{Over, Precedes, InOrder}
-use Rattle.tries.proofs.Meaning.{FirstIn, found-iff, absent-iff, stopped-iff, found-try, found-least, none-iff, none-needs-all, absent-all, zero-stops, tries-iff, tries-ordered, larger-found, larger-absent}
+use Rattle.tries.proofs.Meaning.{FirstIn, found-iff, absent-iff, stopped-iff, found-try, found-least, none-iff, none-needs-all, absent-all, zero-stops, tries-iff, tries-ordered}
 use Rattle.tries.proofs.Placements.{some-placement}
 use Rattle.sound.specs.Sound.{sound, choices, startsOf, modulesIn, startsIn}
 use Rattle.sound.proofs.Hereditary.{hereditary}
-use Rattle.search.specs.Answer.{answerOf, planOf, answered, written, refusalOf, foundOf, bufferAfter}
-use Rattle.search.specs.Meaning.{Plan, FirstPlan, NoPlan, triesOf, neededOf}
-use Rattle.search.specs.declared.Found.{Found}
+use Rattle.search.specs.Answer.{answerOf, planOf}
+use Rattle.search.specs.Meaning.{FirstPlan, NoPlan, triesOf, neededOf}
 use Rattle.search.proofs.Plans.{length-plan, word-accepted, accepted-sound, accepted-over}
 
 -- ---- the answer of the definition

@@ -1,6 +1,6 @@
 -- What the search answers: document 01, "The search and its tries" and "Numbers returned". Nothing here runs a search.
 -- Assumes nothing.
-use mathlib.Core.Bool.{Bool, true, false}
+use mathlib.Core.Bool.{true, false}
 use mathlib.Core.List.{List, _++_}
 use Prim.Native.Nat.{ℕ}
 use lib.Dec.{ltb, eqb}

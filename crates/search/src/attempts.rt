@@ -1,26 +1,20 @@
 // Going over one partition's placements, and trying one placement. They call each other: the next partition is taken up only from inside a try,
 // and partitions left fall, so calls nest at most 64 partitions deep. Nothing is copied in a try: the plan is two columns behind `&mut`. What a
-// start does not change (which partitions are on the module, and whether it admits one more) is worked out once for all starts on a module, and
-// which exclusions and chains speak of the partition once for all its placements.
+// start does not change (which partitions are on the module, and whether it admits one more) is worked out once for all starts on a module.
 ghost use mathlib.Core.Path.{_≡_};
 ghost use Prim.Native.Nat.{_<_};
-ghost use Rattle.sets.specs.Members.{setOf};
-ghost use Rattle.judge.specs.Constraints.{isOn};
 ghost use Rattle.tries.specs.Code.{begun};
-ghost use Rattle.sound.specs.Desk.{desk, admitsOn, completedBy};
+ghost use Rattle.sound.specs.Desk.{desk, heldOn, admitsOn};
 ghost use Rattle.sound.specs.Asked.{Ready};
 ghost use Rattle.search.specs.Standing.{standing, Searched, Tried};
 use model::records::Chain;
-use model::records::Exclusion;
 use model::records::Sheet;
 use sound::desk::Link;
 use sound::desk::Pair;
 use sound::desk::Room;
 use sound::fits::admits;
 use sound::fits::beside;
-use sound::fits::completed;
 use sound::fits::fits;
-use sound::fits::partners;
 
 // Where a search ends: with a plan, with the budget spent, or with neither; and the tries made. `tries` stands between the two answers for speed
 // (docs/DECISIONS.md, "The search").
@@ -39,9 +33,9 @@ pub fn over<'a>(
     memories: &'a [u32; Sheet::PARTITIONS],
     divisors: &'a [u32; Pair::DIVISORS],
     rooms: &'a [[u32; Room::PLACES]; Sheet::MODULES],
-    excluded: usize,
-    exclusions: &'a [[u8; Pair::PLACES]; Sheet::EXCLUSIONS],
-    chained: usize,
+    apart: &'a [u64; Sheet::PARTITIONS],
+    far: &'a [u64; Sheet::PARTITIONS],
+    endings: &'a [u64; Sheet::PARTITIONS],
     chains: &'a [[u32; Link::PLACES]; Sheet::CHAINS],
     members: &'a [[u8; Chain::MEMBERS]; Sheet::CHAINS],
     delays: &'a [[u16; Sheet::MODULES]; Sheet::MODULES],
@@ -51,18 +45,15 @@ pub fn over<'a>(
     limit: u32,
     tries: u32,
 ) -> Outcome
-    requires { ⌜ Ready count hosts (desk (now periods) (now budgets) (now memories) (now divisors) (now rooms) excluded (now exclusions) chained (now chains) (now members) (now delays)) (now modules) j ⌝ }
-    ensures { λ r. ⌜ Searched count hosts (desk (now (periods .entry)) (now (budgets .entry)) (now (memories .entry)) (now (divisors .entry)) (now (rooms .entry)) excluded (now (exclusions .entry)) chained (now (chains .entry)) (now (members .entry)) (now (delays .entry))) limit j (begun tries (now (modules .entry)) (now (starts .entry))) (standing r (now (modules .exit)) (now (starts .exit))) ⌝ }
+    requires { ⌜ Ready count hosts (desk (now periods) (now budgets) (now memories) (now divisors) (now rooms) (now apart) (now far) (now endings) (now chains) (now members) (now delays)) (now modules) j ⌝ }
+    ensures { λ r. ⌜ Searched count hosts (desk (now (periods .entry)) (now (budgets .entry)) (now (memories .entry)) (now (divisors .entry)) (now (rooms .entry)) (now (apart .entry)) (now (far .entry)) (now (endings .entry)) (now (chains .entry)) (now (members .entry)) (now (delays .entry))) limit j (begun tries (now (modules .entry)) (now (starts .entry))) (standing r (now (modules .exit)) (now (starts .exit))) ⌝ }
 {
     let last = periods[j] - budgets[j];
-    let apart = partners(excluded, exclusions, Exclusion::MODULE, j);
-    let far = partners(excluded, exclusions, Exclusion::CABINET, j);
-    let ending = completed(chained, chains, j);
     let mut k = tries;
     let mut m: u32 = 0;
     while m < hosts {
         let held = beside(modules, m, j);
-        let admitted = admits(memories, rooms, modules, m, held, apart, far, j);
+        let admitted = admits(memories, rooms, apart, far, modules, m, held, j);
         let mut t: u32 = 0;
         while t <= last {
             let o = attempt(
@@ -73,9 +64,9 @@ pub fn over<'a>(
                 memories,
                 divisors,
                 rooms,
-                excluded,
-                exclusions,
-                chained,
+                apart,
+                far,
+                endings,
                 chains,
                 members,
                 delays,
@@ -83,7 +74,6 @@ pub fn over<'a>(
                 starts,
                 j,
                 limit,
-                ending,
                 m,
                 held,
                 admitted,
@@ -108,8 +98,8 @@ pub fn over<'a>(
     }
 }
 
-// One try: partition j on module m with start t, and where that fits the partitions left. `ending` are the chains that j completes, `held` the
-// partitions before j on module m, and `admitted` says whether it admits j.
+// One try: partition j on module m with start t, and where that fits the partitions left. `held` are the partitions before j on module m, and
+// `admitted` says whether it admits j.
 fn attempt<'a>(
     count: usize,
     hosts: u32,
@@ -118,9 +108,9 @@ fn attempt<'a>(
     memories: &'a [u32; Sheet::PARTITIONS],
     divisors: &'a [u32; Pair::DIVISORS],
     rooms: &'a [[u32; Room::PLACES]; Sheet::MODULES],
-    excluded: usize,
-    exclusions: &'a [[u8; Pair::PLACES]; Sheet::EXCLUSIONS],
-    chained: usize,
+    apart: &'a [u64; Sheet::PARTITIONS],
+    far: &'a [u64; Sheet::PARTITIONS],
+    endings: &'a [u64; Sheet::PARTITIONS],
     chains: &'a [[u32; Link::PLACES]; Sheet::CHAINS],
     members: &'a [[u8; Chain::MEMBERS]; Sheet::CHAINS],
     delays: &'a [[u16; Sheet::MODULES]; Sheet::MODULES],
@@ -128,17 +118,16 @@ fn attempt<'a>(
     starts: &mut [u32; Sheet::PARTITIONS],
     j: usize,
     limit: u32,
-    ending: u64,
     m: u32,
     held: u64,
     admitted: bool,
     t: u32,
     tries: u32,
 ) -> Outcome
-    requires { ⌜ (m < hosts) × (held ≡ setOf (isOn (now modules) m) j) × (ending ≡ completedBy (now chains) j chained) ⌝ }
-    requires { ⌜ admitted ≡ admitsOn (now memories) (now rooms) excluded (now exclusions) (now modules) m j ⌝ }
-    requires { ⌜ Ready count hosts (desk (now periods) (now budgets) (now memories) (now divisors) (now rooms) excluded (now exclusions) chained (now chains) (now members) (now delays)) (now modules) j ⌝ }
-    ensures { λ r. ⌜ Tried count hosts (desk (now (periods .entry)) (now (budgets .entry)) (now (memories .entry)) (now (divisors .entry)) (now (rooms .entry)) excluded (now (exclusions .entry)) chained (now (chains .entry)) (now (members .entry)) (now (delays .entry))) limit j m t (begun tries (now (modules .entry)) (now (starts .entry))) (standing r (now (modules .exit)) (now (starts .exit))) ⌝ }
+    requires { ⌜ (m < hosts) × (held ≡ heldOn (now modules) m j) ⌝ }
+    requires { ⌜ admitted ≡ admitsOn (now memories) (now rooms) (now apart) (now far) (now modules) m j ⌝ }
+    requires { ⌜ Ready count hosts (desk (now periods) (now budgets) (now memories) (now divisors) (now rooms) (now apart) (now far) (now endings) (now chains) (now members) (now delays)) (now modules) j ⌝ }
+    ensures { λ r. ⌜ Tried count hosts (desk (now (periods .entry)) (now (budgets .entry)) (now (memories .entry)) (now (divisors .entry)) (now (rooms .entry)) (now (apart .entry)) (now (far .entry)) (now (endings .entry)) (now (chains .entry)) (now (members .entry)) (now (delays .entry))) limit j m t (begun tries (now (modules .entry)) (now (starts .entry))) (standing r (now (modules .exit)) (now (starts .exit))) ⌝ }
 {
     if limit <= tries {
         return Outcome {
@@ -153,12 +142,12 @@ fn attempt<'a>(
         periods,
         budgets,
         divisors,
+        endings,
         chains,
         members,
         delays,
         modules,
         starts,
-        ending,
         held,
         admitted,
         j,
@@ -172,9 +161,9 @@ fn attempt<'a>(
                 memories,
                 divisors,
                 rooms,
-                excluded,
-                exclusions,
-                chained,
+                apart,
+                far,
+                endings,
                 chains,
                 members,
                 delays,

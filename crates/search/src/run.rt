@@ -10,11 +10,14 @@ use crate::attempts::over;
 use model::columns::budgets;
 use model::columns::memories;
 use model::columns::periods;
+use model::records::Exclusion;
 use model::records::Sheet;
 use sound::desk::chains_of;
 use sound::desk::divisors_of;
+use sound::desk::endings_of;
 use sound::desk::exclusions_of;
 use sound::desk::members_of;
+use sound::desk::partners_of;
 use sound::desk::rooms_of;
 
 // A partial plan: the module and the start of each placed partition.
@@ -56,7 +59,10 @@ pub fn run(
     let divisors = divisors_of(&t, h.partitions);
     let rooms = rooms_of(hosts, h.modules);
     let exclusions = exclusions_of(pairs, h.exclusions);
+    let apart = partners_of(h.exclusions, &exclusions, Exclusion::MODULE, h.partitions);
+    let far = partners_of(h.exclusions, &exclusions, Exclusion::CABINET, h.partitions);
     let chains = chains_of(links, h.chains);
+    let endings = endings_of(h.chains, &chains, h.partitions);
     let members = members_of(links, h.chains);
     let made: u32 = 0;
     over(
@@ -67,9 +73,9 @@ pub fn run(
         &memory,
         &divisors,
         &rooms,
-        h.exclusions,
-        &exclusions,
-        h.chains,
+        &apart,
+        &far,
+        &endings,
         &chains,
         &members,
         &d,

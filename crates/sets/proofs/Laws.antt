@@ -16,9 +16,9 @@ use lib.Count.{ones, ones-step, trailingZeros, trailing-of-zero, trailing-le}
 use lib.Dec.{eqb, lit<}
 use lib.Pow.{pow-pos, pow-lt, pow-mono}
 use borrow.Author.Tests.{eqb-true, eqb-false, eq-eqb, ne-eqb, not-true}
-use Rattle.sets.specs.Members.{places, member, sumBelow, countBelow, setOf, keptFrom, kept, membersOf, every, eachIn, sizeOf, sumOver, lowestOf, withMember, withoutLowest}
+use Rattle.sets.specs.Members.{places, member, sumBelow, countBelow, setOf, keptFrom, kept, membersOf, every, eachIn, disjoint, sizeOf, sumOver, lowestOf, withMember, withoutLowest}
 use Rattle.sets.proofs.Digits.{digit, digit-below-two, digit-first, digit-next, digit-above, same-digits, digit-of-and, or-kept, or-added, added-is-there, added-elsewhere, taken-is-gone, taken-elsewhere, trailing-below, trailing-is-one, below-trailing, and-takes-lowest}
-use Rattle.sets.proofs.Passing.{sum-at-most, sum-same, sum-first, sum-longer, sum-of-one-more, first-is, first-of-none, kept-same, kept-none, kept-longer, kept-walk, yes-both, every-each, each-every}
+use Rattle.sets.proofs.Passing.{sum-at-most, sum-same, sum-first, sum-longer, sum-of-one-more, first-is, first-of-none, kept-same, kept-none, kept-longer, kept-walk, both-yes, yes-both, every-each, each-every}
 
 -- ---- membership and digits
 module _ (x i : ℕ) where
@@ -267,6 +267,13 @@ module _ (on : ℕ → Bool) where
   unfolding sumBelow
   set-skips n z = rw (add-one n, z) (omega arith)
 
+  -- the same where the code adds the member
+  pub set-joins : (n : ℕ) {set more : ℕ} → set ≡ setOf on n → on n ≡ true → more ≡ withMember set n → more ≡ setOf on (n + 1)
+  set-joins n e y w = w ∙ ap (λ x. withMember x n) e ∙ sym (set-with n y)
+
+  pub set-stays : (n : ℕ) {set : ℕ} → set ≡ setOf on n → on n ≡ false → set ≡ setOf on (n + 1)
+  set-stays n e z = e ∙ sym (set-skips n z)
+
   -- nothing from n on is a member
   pub no-member-past : (n i : ℕ) → n ≤ i → member (setOf on n) i ≡ false
   no-member-past n i l = member-above (setOf on n) n i (set-below n) l
@@ -303,9 +310,6 @@ module _ (on : ℕ → Bool) where
       ap (keptFrom (member (setOf on n)) of 0) e
       ∙ kept-longer of (member (setOf on n)) 0 n (places - n) (λ j g. no-member-past n j (omega arith))
       ∙ kept-same of (member (setOf on n)) on 0 n (λ j g f. member-of-set n j (omega arith))
-
-  pub each-of-set : (f : ℕ → Bool) (n : ℕ) → n ≤ places → eachIn f (setOf on n) ≡ every (kept on f n)
-  each-of-set f n l = ap every (members-of-set f n l)
 
   -- and sums over them
   pub sum-of-set : (g : ℕ → ℕ) (n : ℕ) → n ≤ places → sumOver g (setOf on n) ≡ sumBelow on g n
@@ -347,11 +351,8 @@ each-same f g x h = same-answer _ _
 
 -- a member more
 pub each-with : (f : ℕ → Bool) (x i : ℕ) → i < places → eachIn f (withMember x i) ≡ (eachIn f x && f i)
-each-with f x i l = same-answer _ _ (λ e. both (old e) (each-member f _ e i l (with-has-it x i))) (λ e. all-members f _ (new e))
+each-with f x i l = same-answer _ _ (λ e. both-yes (old e) (each-member f _ e i l (with-has-it x i))) (λ e. all-members f _ (new e))
   where
-    both : {a b : Bool} → a ≡ true → b ≡ true → (a && b) ≡ true
-    both p q = rw (p, q)
-
     member-too : (j : ℕ) → member x j ≡ true → member (withMember x i) j ≡ true
     member-too j y = go (ℕ-discrete j i)
       where
@@ -369,21 +370,23 @@ each-with f x i l = same-answer _ _ (λ e. both (old e) (each-member f _ e i l (
         go (yes q) = ap f q ∙ yes-both (eachIn f x) (f i) e .1
         go (no ne) = each-member f x (yes-both (eachIn f x) (f i) e .0) j h (sym (with-keeps-others x i j ne) ∙ y)
 
--- no member of x is one of y
-pub none-shared : (x y : ℕ) → x < 2 ^ places → y < 2 ^ places → eqb (bitAnd x y) 0 ≡ eachIn (λ (i : ℕ). not (member x i)) y
-none-shared x y hx hy = same-answer _ _ (λ e. all-members _ y (λ i l m. off i m (eqb-true _ _ e))) (λ e. eq-eqb _ _ (nothing e))
+-- no member of x is in y
+pub none-shared : (x y : ℕ) → x < 2 ^ places → y < 2 ^ places → eqb (bitAnd x y) 0 ≡ disjoint x y
+none-shared x y hx hy = same-answer _ _ (λ e. all-members _ x (λ i l m. off i m (eqb-true _ _ e))) (λ e. eq-eqb _ _ (nothing e))
   where
-    off : (i : ℕ) → member y i ≡ true → bitAnd x y ≡ 0 → not (member x i) ≡ true
-    off i m e = rw (member-no x i (let d = digit-of-and x y i in let z : digit (bitAnd x y) i ≡ 0 = ap (λ n. digit n i) e ∙ ap (λ n. n % 2) (zero-div (2 ^ i)) in omega (arith, digit-of-member y i m, digit-below-two x i)))
+    nowhere : (i : ℕ) → digit 0 i ≡ 0
+    nowhere i = digit-of-none 0 i (member-of-empty i)
 
-    nothing : eachIn (λ (i : ℕ). not (member x i)) y ≡ true → bitAnd x y ≡ 0
-    nothing e = same-digits places (bitAnd x y) 0 (and-lt places x y hx hy) (pow-pos places) (λ i l. go i l (member y i) refl)
+    off : (i : ℕ) → member x i ≡ true → bitAnd x y ≡ 0 → not (member y i) ≡ true
+    off i m e =
+        let z : digit (bitAnd x y) i ≡ 0 = ap (λ n. digit n i) e ∙ nowhere i in
+        rw (member-no y i (omega (arith, digit-of-and x y i, digit-of-member x i m, digit-below-two y i)))
+
+    nothing : disjoint x y ≡ true → bitAnd x y ≡ 0
+    nothing e = same-digits places (bitAnd x y) 0 (and-lt places x y hx hy) (pow-pos places) (λ i l. go i l (member x i) refl)
       where
-        zero-digit : (i : ℕ) → digit 0 i ≡ 0
-        zero-digit i = ap (λ n. n % 2) (zero-div (2 ^ i))
-
-        go : (i : ℕ) → i < places → (b : Bool) → member y i ≡ b → digit (bitAnd x y) i ≡ digit 0 i
+        go : (i : ℕ) → i < places → (b : Bool) → member x i ≡ b → digit (bitAnd x y) i ≡ digit 0 i
         go i l true m =
-            let o : digit x i ≡ 0 = digit-of-none x i (not-true _ (each-member _ y e i l m)) in
-            omega (arith, digit-of-and x y i, zero-digit i)
-        go i l false m = omega (arith, digit-of-and x y i, zero-digit i, digit-of-none y i m)
+            let o : digit y i ≡ 0 = digit-of-none y i (not-true _ (each-member _ x e i l m)) in
+            omega (arith, digit-of-and x y i, nowhere i)
+        go i l false m = omega (arith, digit-of-and x y i, nowhere i, digit-of-none x i m)

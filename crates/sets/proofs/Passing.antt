@@ -130,6 +130,9 @@ module _ {A : Type 0} (of : ℕ → A) where
           rw (p, q) (ih m)
 
 -- ---- each of those that pass `on` passes f
+pub both-yes : {a b : Bool} → a ≡ true → b ≡ true → (a && b) ≡ true
+both-yes p q = rw (p, q)
+
 pub yes-both : (a b : Bool) → (a && b) ≡ true → (a ≡ true) × (b ≡ true)
 yes-both true b e = (refl, e)
 yes-both false b e = absurd (true≢false (sym e))

@@ -1,7 +1,8 @@
 -- "A module's partitions are kept as a set in one 64-bit number" (document 01): partition i is in the set x where the bit of weight 2 ^ i is 1.
+-- The search keeps chains so too; there are at most 32.
 -- Sums over the partitions that pass a test, their list in ascending order, and the set of them as a number.
 -- Assumes nothing.
-use mathlib.Core.Bool.{Bool, true, cond, _&&_}
+use mathlib.Core.Bool.{Bool, true, cond, not, _&&_}
 use mathlib.Core.List.{List, [], _∷_}
 use Prim.Native.Nat.{ℕ, zero, suc, _+_, _-_, _/_, _%_, _^_}
 use lib.Dec.{eqb}
@@ -64,6 +65,10 @@ sumOver g x = sumBelow (member x) g places
 -- each of them passes
 abbrev pub eachIn : (ℕ → Bool) → ℕ → Bool
 eachIn f x = every (membersOf f x)
+
+-- none of them is in the set y
+abbrev pub disjoint : ℕ → ℕ → Bool
+disjoint x y = eachIn (λ i. not (member y i)) x
 
 -- the lowest of them; 64 where there is none
 abbrev pub lowestOf : ℕ → ℕ

@@ -1,9 +1,9 @@
-// "A module's partitions are kept as a set in one 64-bit number" (document 01): partition i is the bit of weight 2 ^ i.
+// "A module's partitions are kept as a set in one 64-bit number" (document 01): partition i is the bit of weight 2 ^ i. The search keeps chains
+// so too; there are at most 32.
 ghost use mathlib.Core.Path.{_≡_};
-ghost use mathlib.Core.Bool.{not};
 ghost use Prim.Native.Nat.{ℕ, _≤_, _<_, _^_};
 ghost use lib.ListN.{getD};
-ghost use Rattle.sets.specs.Members.{places, member, withMember, eachIn, sizeOf, lowestOf, withoutLowest, sumOver};
+ghost use Rattle.sets.specs.Members.{places, member, withMember, disjoint, sizeOf, lowestOf, withoutLowest, sumOver};
 
 // How many partitions a set has room for.
 pub const PLACES: usize = 64;
@@ -29,9 +29,9 @@ pub fn has(x: u64, i: usize) -> bool
     (x >> i) & 1 == 1
 }
 
-// Whether no partition of the set x is one of the set y.
+// Whether no partition of the set x is in the set y.
 pub fn apart(x: u64, y: u64) -> bool
-    ensures { λ r. ⌜ r ≡ eachIn (λ (i : ℕ). not (member x i)) y ⌝ }
+    ensures { λ r. ⌜ r ≡ disjoint x y ⌝ }
 {
     x & y == 0
 }

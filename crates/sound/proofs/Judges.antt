@@ -1,31 +1,29 @@
 -- After sound placements the code's test of one more says whether the plan with it is sound. Assumes nothing.
-use mathlib.Core.Path.{_≡_, refl, sym, _∙_, ap, ap₂}
-use mathlib.Core.Bool.{Bool, true, false, cond, not, _&&_, _||_}
-use mathlib.Core.List.{List, [], _∷_}
-use Prim.Native.Nat.{ℕ, zero, suc, _+_, _-_, _<_, _≤_}
+use mathlib.Core.Path.{_≡_, refl, sym, _∙_, ap}
+use mathlib.Core.Bool.{Bool, true, not, _&&_, _||_}
+use mathlib.Core.List.{List}
+use Prim.Native.Nat.{ℕ, suc, _+_, _<_, _≤_}
 use native.Mathlib.Omega.{arith}
 use native.Mathlib.Decide.{decLt, ℕ-discrete}
 use native.Mathlib.Numerals.{add-one}
-use lib.Dec.{leb, ltb, eqb}
-use lib.ListN.{getD}
+use lib.Dec.{eqb}
 use borrow.Author.Tests.{lt-ltb, ltb-true, le-leb, eq-eqb, ne-eqb, eqb-true}
-use Rattle.euclid.specs.Euclid.{gcdOf}
 use Rattle.overlap.specs.Overlap.{clearBy}
-use Rattle.sets.specs.Members.{places, member, eachIn}
-use Rattle.sets.proofs.Laws.{same-answer, member-of-set, in-set, each-member, all-members}
+use Rattle.sets.specs.Members.{places, member, setOf, withMember, eachIn, disjoint}
+use Rattle.sets.proofs.Laws.{same-answer, set-with, size-of-set, sum-of-set, member-of-set, in-set, each-member, all-members}
 use Rattle.model.specs.Fair.{Fair}
 use Rattle.model.specs.Columns.{periodsOf, budgetsOf, memoriesOf}
 use Rattle.model.specs.declared.records.Sheet.{Sheet}
 use Rattle.judge.specs.Places.{passes}
-use Rattle.judge.specs.Constraints.{at, isOn, moduleAt, cabinetOf, totalOn, hostedOn, chainDelay, c1, c2, c3, c4, c5, c6, c7, c8}
+use Rattle.judge.specs.Constraints.{at, isOn, totalOn, hostedOn, c1, c2, c3, c4, c5, c6, c7, c8}
 use Rattle.judge.specs.Verdict.{exclusionAt, chainAt}
+use Rattle.judge.proofs.Hosting.{total-is-sum, hosted-is-count}
 use Rattle.sound.specs.Sound.{soundAt, startsOf}
-use Rattle.sound.specs.Desk.{cell, deskOf, largest, pairAt, divisorsOf, roomsOf, exclusionsOf, chainsOf, membersOf, clearAt, clearOf, roomFor, pairsAt, partnersIn, elsewhere, farther, partedOf, admitsOn, completedBy, keptAt, keptOf, fitsBy}
-use Rattle.sound.proofs.Passed.{Passed, sound-passed, passed-sound, both, fore, rest, each, all}
+use Rattle.sound.specs.Desk.{cell, deskOf, largest, heldOn, divisorsOf, roomsOf, exclusionsOf, chainsOf, membersOf, pairsAt, partnersOf, completedBy, endingsOf, roomIn, farther, admitsOn, clearWith, keptAt, fitsWhere, fitsBy}
+use Rattle.sound.proofs.Passed.{Passed, sound-passed, passed-sound, both, fore, rest, asked, answered, each, all}
 use Rattle.sound.proofs.Partners.{each-partner}
-use Rattle.sound.proofs.Hereditary.{fewer-passed}
 use Rattle.sound.proofs.Exact.{budget-within}
-use Rattle.sound.proofs.Tables.{room-at, exclusion-at, chain-at, members-at, divisor-at, member-at-most, largest-below}
+use Rattle.sound.proofs.Tables.{room-at, exclusion-at, ordered, chain-at, members-at, divisor-at, partners-at, endings-at, member-at-most, largest-below}
 
 -- what holds of each below j, and of j
 at-last : (P : ℕ → Type 0) (i j : ℕ) → i < suc j → (i < j → P i) → P j → P i
@@ -60,43 +58,59 @@ module _ (s : Sheet) (delays : List (List ℕ)) (fair : Fair s delays) (ms ts : 
     six : (x : ℕ) → x < s .head .exclusions → exclusionAt s x .second ≡ j → (c6 ms (exclusionAt s x) && c7 (s .modules) ms (exclusionAt s x)) ≡ true
     eight : (c : ℕ) → c < s .head .chains → largest (chainAt s c .members) (chainAt s c .length) ≡ j → c8 T B delays ms (chainAt s c) ≡ true
 
-  clear-is : (i : ℕ) → i < j → clearAt (divisorsOf T (s .head .partitions)) B ms ts j i ≡ c2 T B ms ts i j
-  unfolding clearAt c2
+  abbrev N : ℕ
+  N = s .head .partitions
+
+  abbrev X : ℕ
+  X = s .head .exclusions
+
+  abbrev held : ℕ
+  held = heldOn ms (at ms j) j
+
+  -- C2: those before j that are on its module
+  clear-is : (i : ℕ) → i < j → (not (isOn ms (at ms j) i) || clearWith (divisorsOf T N) B ts j i) ≡ c2 T B ms ts i j
+  unfolding c2
   clear-is i h =
-      let d = divisor-at T (s .head .partitions) i j (fair .head .inside .partitions) (omega arith) (omega (arith, fair .head .inside .partitions)) in
+      let d = divisor-at T N i j (fair .head .inside .partitions) (omega arith) (omega (arith, fair .head .inside .partitions)) in
       ap (λ g. not (eqb (at ms i) (at ms j)) || clearBy g (at ts i) (at B i) (at ts j) (at B j)) d
 
-  room-is : roomFor (memoriesOf s) (roomsOf s) ms (at ms j) j ≡ (c5 (s .modules) ms (suc j) (at ms j) && c4 (s .modules) (memoriesOf s) ms (suc j) (at ms j))
-  unfolding roomFor c4 c5 hostedOn totalOn
-  room-is = rw (eq-eqb (at ms j) (at ms j) refl, room-at s delays fair (at ms j) (below j (omega arith)))
+  -- C5 and C4: with j those are the ones on its module
+  room-is : roomIn (memoriesOf s) (roomsOf s) (at ms j) (withMember held j)
+      ≡ (c5 (s .modules) ms (suc j) (at ms j) && c4 (s .modules) (memoriesOf s) ms (suc j) (at ms j))
+  unfolding roomIn c4 c5
+  room-is =
+      let inside : suc j ≤ places = omega (arith, fair .head .inside .partitions) in
+      let on = isOn ms (at ms j) in
+      let all : withMember held j ≡ setOf on (suc j) = sym (rw add-one at (set-with on j (eq-eqb (at ms j) (at ms j) refl))) in
+      let size = size-of-set on (suc j) inside ∙ sym (hosted-is-count ms (at ms j) (suc j)) in
+      let sum = sum-of-set on (at (memoriesOf s)) (suc j) inside ∙ sym (total-is-sum (memoriesOf s) ms (at ms j) (suc j)) in
+      rw (all, size, sum, room-at s delays fair (at ms j) (below j (omega arith)))
 
-  -- an exclusion whose second partition is j says what C6 and C7 say
-  near-is : (x : ℕ) → x < s .head .exclusions → exclusionAt s x .second ≡ j
-      → (not (pairsAt (exclusionsOf s) 0 j x) || elsewhere ms (at ms j) (cell (exclusionsOf s) x 1)) ≡ c6 ms (exclusionAt s x)
-  unfolding c6 pairsAt
-  near-is x h e = rw (exclusion-at s delays fair x h, eq-eqb (exclusionAt s x .second) j e, ← e)
+  -- C6 and C7: an exclusion whose second partition is j
+  module _ (x : ℕ) (h : x < X) (e : exclusionAt s x .second ≡ j) where
+    near-is : (not (pairsAt (exclusionsOf s) 0 j x) || not (member held (cell (exclusionsOf s) x 1))) ≡ c6 ms (exclusionAt s x)
+    unfolding c6 pairsAt
+    near-is =
+        let first : exclusionAt s x .first < j = let x-fair = fair .exclusions x h in omega arith in
+        rw (exclusion-at s delays fair x h, eq-eqb (exclusionAt s x .second) j e, member-of-set (isOn ms (at ms j)) j (exclusionAt s x .first) first, ← e)
 
-  far-is : (x : ℕ) → x < s .head .exclusions → exclusionAt s x .second ≡ j
-      → (not (pairsAt (exclusionsOf s) 1 j x) || farther (roomsOf s) ms (at ms j) (cell (exclusionsOf s) x 1)) ≡ c7 (s .modules) ms (exclusionAt s x)
-  unfolding c7 pairsAt farther
-  far-is x h e =
-      let x-fair = fair .exclusions x h in
-      let first : at ms (exclusionAt s x .first) < s .head .modules = below (exclusionAt s x .first) (omega arith) in
-      rw (exclusion-at s delays fair x h, eq-eqb (exclusionAt s x .second) j e, room-at s delays fair (at ms (exclusionAt s x .first)) first, room-at s delays fair (at ms j) (below j (omega arith)), ← e)
-
-  kept-is : (c : ℕ) → c < s .head .chains → keptAt T B (chainsOf s) (membersOf s) delays ms c ≡ c8 T B delays ms (chainAt s c)
-  unfolding c8 keptAt
-  kept-is c h = rw (chain-at s delays fair c h, members-at s delays fair c h)
+    far-is : (not (pairsAt (exclusionsOf s) 1 j x) || farther (roomsOf s) ms (at ms j) (cell (exclusionsOf s) x 1)) ≡ c7 (s .modules) ms (exclusionAt s x)
+    unfolding c7 pairsAt farther
+    far-is =
+        let x-fair = fair .exclusions x h in
+        let first : at ms (exclusionAt s x .first) < s .head .modules = below (exclusionAt s x .first) (omega arith) in
+        rw (exclusion-at s delays fair x h, eq-eqb (exclusionAt s x .second) j e, room-at s delays fair (at ms (exclusionAt s x .first)) first, room-at s delays fair (at ms j) (below j (omega arith)), ← e)
 
   -- what holds of the partners of j holds of each exclusion whose second partition is j
   partners-are : (kind : ℕ) (f : ℕ → Bool)
-      → eachIn f (partnersIn (exclusionsOf s) kind j (s .head .exclusions))
-      ≡ passes (λ x. not (pairsAt (exclusionsOf s) kind j x) || f (cell (exclusionsOf s) x 1)) (s .head .exclusions)
-  partners-are kind f = each-partner (exclusionsOf s) kind j f (s .head .exclusions)
-      (λ x h e. rw (exclusion-at s delays fair x h) (let x-fair = fair .exclusions x h in let n = fair .head .inside .partitions in omega (arith, rw (exclusion-at s delays fair x h) at e)))
+      → eachIn f (at (partnersOf (exclusionsOf s) kind X N) j) ≡ passes (λ x. not (pairsAt (exclusionsOf s) kind j x) || f (cell (exclusionsOf s) x 1)) X
+  partners-are kind f =
+      ap (eachIn f) (partners-at X N j (fair .head .inside .partitions) l (exclusionsOf s) kind)
+      ∙ each-partner (exclusionsOf s) kind j f X
+      (λ x h e. let o = ordered s delays fair x h in let n = fair .head .inside .partitions in omega arith)
 
   -- an exclusion whose second partition is another says nothing of j
-  of-j : (kind : ℕ) (a : Bool) (x : ℕ) → x < s .head .exclusions → (exclusionAt s x .second ≡ j → (not (pairsAt (exclusionsOf s) kind j x) || a) ≡ true)
+  of-j : (kind : ℕ) (a : Bool) (x : ℕ) → x < X → (exclusionAt s x .second ≡ j → (not (pairsAt (exclusionsOf s) kind j x) || a) ≡ true)
       → (not (pairsAt (exclusionsOf s) kind j x) || a) ≡ true
   unfolding pairsAt
   of-j kind a x h f = go (ℕ-discrete (exclusionAt s x .second) j)
@@ -105,20 +119,28 @@ module _ (s : Sheet) (delays : List (List ℕ)) (fair : Fair s delays) (ms ts : 
       go (yes q) = f q
       go (no q) = rw (exclusion-at s delays fair x h, ne-eqb (exclusionAt s x .second) j q)
 
-  abbrev near? : Bool
-  near? = eachIn (elsewhere ms (at ms j)) (partnersIn (exclusionsOf s) 0 j (s .head .exclusions))
+  -- C8
+  kept-is : (c : ℕ) → c < s .head .chains → keptAt T B (chainsOf s) (membersOf s) delays ms c ≡ c8 T B delays ms (chainAt s c)
+  unfolding c8 keptAt
+  kept-is c h = rw (chain-at s delays fair c h, members-at s delays fair c h)
 
-  abbrev far? : Bool
-  far? = eachIn (farther (roomsOf s) ms (at ms j)) (partnersIn (exclusionsOf s) 1 j (s .head .exclusions))
-
-  abbrev clear? : Bool
-  clear? = clearOf (divisorsOf T (s .head .partitions)) B ms ts j
+  ends-is : at (endingsOf (chainsOf s) (s .head .chains) N) j ≡ completedBy (chainsOf s) j (s .head .chains)
+  ends-is = endings-at (s .head .chains) N j (fair .head .inside .partitions) l (chainsOf s)
 
   abbrev room? : Bool
-  room? = roomFor (memoriesOf s) (roomsOf s) ms (at ms j) j
+  room? = roomIn (memoriesOf s) (roomsOf s) (at ms j) (withMember held j)
+
+  abbrev near? : Bool
+  near? = disjoint (at (partnersOf (exclusionsOf s) 0 X N) j) held
+
+  abbrev far? : Bool
+  far? = eachIn (farther (roomsOf s) ms (at ms j)) (at (partnersOf (exclusionsOf s) 1 X N) j)
+
+  abbrev clear? : Bool
+  clear? = eachIn (clearWith (divisorsOf T N) B ts j) held
 
   abbrev kept? : Bool
-  kept? = keptOf T B (s .head .chains) (chainsOf s) (membersOf s) delays ms j
+  kept? = eachIn (keptAt T B (chainsOf s) (membersOf s) delays ms) (at (endingsOf (chainsOf s) (s .head .chains) N) j)
 
   abbrev c4? : Bool
   c4? = c4 (s .modules) (memoriesOf s) ms (suc j) (at ms j)
@@ -127,39 +149,46 @@ module _ (s : Sheet) (delays : List (List ℕ)) (fair : Fair s delays) (ms ts : 
   c5? = c5 (s .modules) ms (suc j) (at ms j)
 
   fits-fitting : fitsBy (deskOf s delays) ms ts j ≡ true → Fitting
-  unfolding fitsBy admitsOn clearOf partedOf keptOf
+  unfolding fitsWhere admitsOn
   fits-fitting e =
       let admitted = fore (room? && (near? && far?)) (clear? && kept?) e in
       let later = rest (room? && (near? && far?)) (clear? && kept?) e in
       let room = sym room-is ∙ fore room? (near? && far?) admitted in
-      let near = sym (partners-are 0 (elsewhere ms (at ms j))) ∙ fore near? far? (rest room? (near? && far?) admitted) in
+      let near = sym (partners-are 0 (λ i. not (member held i))) ∙ fore near? far? (rest room? (near? && far?) admitted) in
       let far = sym (partners-are 1 (farther (roomsOf s) ms (at ms j))) ∙ rest near? far? (rest room? (near? && far?) admitted) in
+      let clear = fore clear? kept? later in
+      let kept = rw ends-is at (rest clear? kept? later) in
       record {
-        two = λ i h. sym (clear-is i h) ∙ each (clearAt (divisorsOf T (s .head .partitions)) B ms ts j) j (fore clear? kept? later) i h;
+        two = λ i h.
+            let p : i < places = omega (arith, fair .head .inside .partitions) in
+            sym (clear-is i h) ∙ asked _ _ (λ on. each-member _ held clear i p (member-of-set (isOn ms (at ms j)) j i h ∙ on));
         four = rest c5? c4? room;
         five = fore c5? c4? room;
-        six = λ x h q. both (sym (near-is x h q) ∙ each _ (s .head .exclusions) near x h) (sym (far-is x h q) ∙ each _ (s .head .exclusions) far x h);
+        six = λ x h q. both (sym (near-is x h q) ∙ each _ X near x h) (sym (far-is x h q) ∙ each _ X far x h);
         eight = λ c h q.
-            let few = fair .head .inside .chains in
+            let p : c < places = omega (arith, fair .head .inside .chains) in
             let on : member (completedBy (chainsOf s) j (s .head .chains)) c ≡ true =
             member-of-set (λ c. eqb (cell (chainsOf s) c 2) j) (s .head .chains) c h ∙ rw (chain-at s delays fair c h) (eq-eqb _ _ q)
             in
-            sym (kept-is c h) ∙ each-member _ (completedBy (chainsOf s) j (s .head .chains)) (rest clear? kept? later) c (omega arith) on;
+            sym (kept-is c h) ∙ each-member _ (completedBy (chainsOf s) j (s .head .chains)) kept c p on;
       }
 
   fitting-fits : Fitting → fitsBy (deskOf s delays) ms ts j ≡ true
-  unfolding fitsBy admitsOn clearOf partedOf keptOf
-  fitting-fits f =
-      both
-      (both (room-is ∙ both (f .five) (f .four))
-      (both
-      (partners-are 0 (elsewhere ms (at ms j))
-      ∙ all _ (s .head .exclusions) (λ x h. of-j 0 _ x h (λ q. near-is x h q ∙ fore (c6 ms (exclusionAt s x)) (c7 (s .modules) ms (exclusionAt s x)) (f .six x h q))))
-      (partners-are 1 (farther (roomsOf s) ms (at ms j))
-      ∙ all _ (s .head .exclusions) (λ x h. of-j 1 _ x h (λ q. far-is x h q ∙ rest (c6 ms (exclusionAt s x)) (c7 (s .modules) ms (exclusionAt s x)) (f .six x h q))))))
-      (both (all (clearAt (divisorsOf T (s .head .partitions)) B ms ts j) j (λ i h. clear-is i h ∙ f .two i h))
-      (all-members _ (completedBy (chainsOf s) j (s .head .chains)) chains))
+  unfolding fitsWhere admitsOn
+  fitting-fits f = both (both (room-is ∙ both (f .five) (f .four)) (both near far)) (both clear (rw ends-is (all-members _ (completedBy (chainsOf s) j (s .head .chains)) chains)))
     where
+      near : near? ≡ true
+      near = partners-are 0 (λ i. not (member held i)) ∙ all _ X
+          (λ x h. of-j 0 _ x h (λ q. near-is x h q ∙ fore (c6 ms (exclusionAt s x)) (c7 (s .modules) ms (exclusionAt s x)) (f .six x h q)))
+
+      far : far? ≡ true
+      far = partners-are 1 (farther (roomsOf s) ms (at ms j)) ∙ all _ X
+          (λ x h. of-j 1 _ x h (λ q. far-is x h q ∙ rest (c6 ms (exclusionAt s x)) (c7 (s .modules) ms (exclusionAt s x)) (f .six x h q)))
+
+      clear : clear? ≡ true
+      clear = all-members _ held
+          (λ i l y. let on = in-set (isOn ms (at ms j)) j i y in answered _ _ (clear-is i (on .0) ∙ f .two i (on .0)) (on .1))
+
       chains : (c : ℕ) → c < places → member (completedBy (chainsOf s) j (s .head .chains)) c ≡ true → keptAt T B (chainsOf s) (membersOf s) delays ms c ≡ true
       chains c l y =
           let on = in-set (λ c. eqb (cell (chainsOf s) c 2) j) (s .head .chains) c y in

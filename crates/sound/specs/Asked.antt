@@ -6,7 +6,7 @@ use mathlib.Core.List.{List, []}
 use Prim.Native.Nat.{ℕ, _≤_, _<_, _^_}
 use lib.ListN.{length, getD}
 use Rattle.sets.specs.Members.{places, member}
-use Rattle.model.specs.Limits.{mostModules, mostPartitions, mostExclusions, mostChains, mostMembers}
+use Rattle.model.specs.Limits.{mostModules, mostPartitions, mostChains, mostMembers}
 use Rattle.model.specs.Widths.{periodBits}
 use Rattle.judge.specs.Constraints.{at}
 use Rattle.judge.specs.Asked.{Placed, AllPlaced}
@@ -16,7 +16,7 @@ use Rattle.sound.specs.Desk.{Desk, cell, pairAt}
 abbrev pub Divisible : (divisors : List ℕ) → ℕ → Type 0
 Divisible divisors j = (i : ℕ) → i < j → 1 ≤ at divisors (pairAt i j)
 
--- in each exclusion the first partition is the lower one
+-- in each of the first n exclusions the first partition is the lower one
 abbrev pub Ordered : (exclusions : List (List ℕ)) → ℕ → Type 0
 Ordered exclusions n = (x : ℕ) → x < n → cell exclusions x 1 < cell exclusions x 2
 
@@ -34,17 +34,23 @@ pub record ChainPlaced (chains members : List (List ℕ)) (ms : List ℕ) (c : �
 abbrev pub ChainsPlaced : (chains members : List (List ℕ)) (ms : List ℕ) → ℕ → Type 0
 ChainsPlaced chains members ms set = (c : ℕ) → c < places → member set c ≡ true → ChainPlaced chains members ms c
 
--- whether module m admits partition j, which is excluded from the cabinets of the partitions of the set `far`, can be asked
-pub record Admissible (ms : List ℕ) (m far j : ℕ) : Type 0 where
+-- it can be asked whether module m admits partition j
+pub record Askable (far ms : List ℕ) (m j : ℕ) : Type 0 where
   pub inside : j < mostPartitions
   pub on : m < mostModules
-  pub placed : SetPlaced ms far
+  pub placed : SetPlaced ms (at far j)
 
--- the placement of partition j, which completes the chains of the set `ending`, can be tested
-pub record Testable (divisors : List ℕ) (chains members : List (List ℕ)) (ms : List ℕ) (ending j : ℕ) : Type 0 where
+-- the placement of partition j can be tested
+pub record Testable (divisors endings : List ℕ) (chains members : List (List ℕ)) (ms : List ℕ) (j : ℕ) : Type 0 where
   pub inside : j < mostPartitions
   pub divisible : Divisible divisors j
-  pub placed : ChainsPlaced chains members ms ending
+  pub placed : ChainsPlaced chains members ms (at endings j)
+
+-- the members of chain c stand up to j
+pub record Ending (chains members : List (List ℕ)) (j c : ℕ) : Type 0 where
+  pub inside : c < mostChains
+  pub length : cell chains c 1 ≤ mostMembers
+  pub largest : (i : ℕ) → i < cell chains c 1 → at (getD members c []) i ≤ j
 
 -- a desk for `count` partitions on `hosts` modules
 pub record Laid (count hosts : ℕ) (d : Desk) : Type 0 where
@@ -53,11 +59,8 @@ pub record Laid (count hosts : ℕ) (d : Desk) : Type 0 where
   pub within : (i : ℕ) → i < count → at (d .budgets) i ≤ at (d .periods) i
   pub short : (i : ℕ) → i < count → at (d .periods) i < 2 ^ periodBits
   pub divisors : (j : ℕ) → j < count → Divisible (d .divisors) j
-  pub excluded : d .excluded ≤ mostExclusions
-  pub order : Ordered (d .exclusions) (d .excluded)
-  pub chained : d .chained ≤ mostChains
-  pub lengths : (c : ℕ) → c < d .chained → cell (d .chains) c 1 ≤ mostMembers
-  pub largest : (c : ℕ) → c < d .chained → (i : ℕ) → i < cell (d .chains) c 1 → at (getD (d .members) c []) i ≤ cell (d .chains) c 2
+  pub far : (j : ℕ) → j < count → (i : ℕ) → i < places → member (at (d .far) j) i ≡ true → i < j
+  pub endings : (j : ℕ) → j < count → (c : ℕ) → c < places → member (at (d .endings) j) c ≡ true → Ending (d .chains) (d .members) j c
 
 -- partition j is to be placed, after those before it
 pub record Ready (count hosts : ℕ) (d : Desk) (ms : List ℕ) (j : ℕ) : Type 0 where

@@ -1,13 +1,13 @@
 -- What the search has at hand: arrays of numbers, made once a search from the sheet, and the test of one try over them.
 -- The contracts of the inner functions speak of these. That after sound placements the test says whether the plan with one more is sound is
 -- proved (proofs/Judges.antt), so nothing here has to be believed. Assumes nothing.
-use mathlib.Core.Bool.{Bool, true, false, cond, not, _&&_, _||_}
+use mathlib.Core.Bool.{Bool, cond, not, _&&_}
 use mathlib.Core.List.{List, [], _∷_}
 use Prim.Native.Nat.{ℕ, zero, suc, _+_, _-_, _*_, _/_, _%_}
 use lib.Dec.{leb, ltb, eqb}
 use lib.ListN.{getD, replicate}
 use Rattle.lists.specs.Filled.{filled}
-use Rattle.sets.specs.Members.{setOf, sizeOf, sumOver, withMember, eachIn}
+use Rattle.sets.specs.Members.{setOf, sizeOf, sumOver, withMember, eachIn, disjoint}
 use Rattle.euclid.specs.Euclid.{gcdOf}
 use Rattle.overlap.specs.Overlap.{clearBy}
 use Rattle.model.specs.Limits.{mostModules, mostPartitions, mostExclusions, mostChains, mostMembers}
@@ -16,8 +16,7 @@ use Rattle.model.specs.declared.records.Chain.{Chain}
 use Rattle.model.specs.declared.records.Exclusion.{Exclusion}
 use Rattle.model.specs.declared.records.Module.{Module}
 use Rattle.model.specs.declared.records.Sheet.{Sheet}
-use Rattle.judge.specs.Places.{passes}
-use Rattle.judge.specs.Constraints.{at, isOn, totalOn, hostedOn, chainDelay, moduleAt}
+use Rattle.judge.specs.Constraints.{at, isOn, chainDelay, moduleAt}
 use Rattle.judge.specs.Verdict.{exclusionAt, chainAt}
 
 -- place k of row i
@@ -32,27 +31,27 @@ pub record Desk : Type 0 where
   pub divisors : List ℕ
   -- of each module: the cabinet, the memory and the most partitions
   pub rooms : List (List ℕ)
-  -- of the exclusions: how many, and of each the kind and the two partitions
-  pub excluded : ℕ
-  pub exclusions : List (List ℕ)
-  -- of the chains: how many, of each the limit, the length and the largest member, and the members
-  pub chained : ℕ
+  -- of each partition: the sets of those that it is excluded from by module, by cabinet, and of the chains that it completes
+  pub apart : List ℕ
+  pub far : List ℕ
+  pub endings : List ℕ
+  -- of each chain: the limit, the length and the largest member, and the members
   pub chains : List (List ℕ)
   pub members : List (List ℕ)
   pub delays : List (List ℕ)
 
-abbrev pub desk : (periods budgets memories divisors : List ℕ) (rooms : List (List ℕ)) (excluded : ℕ) (exclusions : List (List ℕ))
-    (chained : ℕ) (chains members delays : List (List ℕ)) → Desk
-desk periods budgets memories divisors rooms excluded exclusions chained chains members delays =
+abbrev pub desk : (periods budgets memories divisors : List ℕ) (rooms : List (List ℕ)) (apart far endings : List ℕ)
+    (chains members delays : List (List ℕ)) → Desk
+desk periods budgets memories divisors rooms apart far endings chains members delays =
     record {
       periods = periods;
       budgets = budgets;
       memories = memories;
       divisors = divisors;
       rooms = rooms;
-      excluded = excluded;
-      exclusions = exclusions;
-      chained = chained;
+      apart = apart;
+      far = far;
+      endings = endings;
       chains = chains;
       members = members;
       delays = delays;
@@ -92,37 +91,7 @@ chainsOf s = filled mostChains (s .head .chains) (λ c. chainRow (chainAt s c)) 
 unfoldable pub membersOf : Sheet → List (List ℕ)
 membersOf s = filled mostChains (s .head .chains) (λ c. chainAt s c .members) (replicate mostMembers 0)
 
--- the desk of a sheet
-abbrev pub deskOf : Sheet → (delays : List (List ℕ)) → Desk
-deskOf s delays =
-    desk (periodsOf s) (budgetsOf s) (memoriesOf s) (divisorsOf (periodsOf s) (s .head .partitions)) (roomsOf s) (s .head .exclusions) (exclusionsOf s)
-    (s .head .chains) (chainsOf s) (membersOf s) delays
-
--- how many starts partition j has: 0 to T - B
-abbrev pub widthOf : (periods budgets : List ℕ) → ℕ → ℕ
-widthOf periods budgets j = at periods j - at budgets j + 1
-
--- C2 of partitions i and j, which share a module
-abbrev pub clearWith : (divisors budgets ts : List ℕ) → (j i : ℕ) → Bool
-clearWith divisors budgets ts j i = clearBy (at divisors (pairAt i j)) (at ts i) (at budgets i) (at ts j) (at budgets j)
-
--- C2 of partitions i and j
-unfoldable pub clearAt : (divisors budgets ms ts : List ℕ) → (j i : ℕ) → Bool
-clearAt divisors budgets ms ts j i = not (isOn ms (at ms j) i) || clearWith divisors budgets ts j i
-
--- C2 of j with each partition before it
-unfoldable pub clearOf : (divisors budgets ms ts : List ℕ) → ℕ → Bool
-clearOf divisors budgets ms ts j = passes (clearAt divisors budgets ms ts j) j
-
--- C5 and C4 of module m, on which the partitions of a set are
-unfoldable pub roomIn : (memories : List ℕ) (rooms : List (List ℕ)) → (m set : ℕ) → Bool
-roomIn memories rooms m set = leb (sizeOf set) (cell rooms m 2) && leb (sumOver (at memories) set) (cell rooms m 1)
-
--- and with partition j on it beside those before j
-unfoldable pub roomFor : (memories : List ℕ) (rooms : List (List ℕ)) (ms : List ℕ) → (m j : ℕ) → Bool
-roomFor memories rooms ms m j = leb (hostedOn ms m j + 1) (cell rooms m 2) && leb (totalOn memories ms m j + at memories j) (cell rooms m 1)
-
--- exclusion x is of a kind, and its second partition is j
+-- exclusion x is of the given kind, and its second partition is j
 unfoldable pub pairsAt : (exclusions : List (List ℕ)) → (kind j x : ℕ) → Bool
 pairsAt exclusions kind j x = eqb (cell exclusions x 2) j && eqb (cell exclusions x 0) kind
 
@@ -132,39 +101,65 @@ partnersIn exclusions kind j zero = 0
 partnersIn exclusions kind j (suc n) =
     cond (pairsAt exclusions kind j n) (withMember (partnersIn exclusions kind j n) (cell exclusions n 1)) (partnersIn exclusions kind j n)
 
--- C6 of partition i and one on module m
-abbrev pub elsewhere : (ms : List ℕ) → (m i : ℕ) → Bool
-elsewhere ms m i = not (eqb (at ms i) m)
-
--- and C7
-unfoldable pub farther : (rooms : List (List ℕ)) (ms : List ℕ) → (m i : ℕ) → Bool
-farther rooms ms m i = not (eqb (cell rooms (at ms i) 0) (cell rooms m 0))
-
--- C6 and C7 of the exclusions whose second partition is j, which is on module m
-unfoldable pub partedOf : (rooms : List (List ℕ)) → ℕ → (exclusions : List (List ℕ)) (ms : List ℕ) → (m j : ℕ) → Bool
-partedOf rooms excluded exclusions ms m j =
-    eachIn (elsewhere ms m) (partnersIn exclusions 0 j excluded) && eachIn (farther rooms ms m) (partnersIn exclusions 1 j excluded)
-
--- module m admits partition j, whatever its start
-unfoldable pub admitsOn : (memories : List ℕ) (rooms : List (List ℕ)) → ℕ → (exclusions : List (List ℕ)) (ms : List ℕ) → (m j : ℕ) → Bool
-admitsOn memories rooms excluded exclusions ms m j = roomFor memories rooms ms m j && partedOf rooms excluded exclusions ms m j
+-- of each of the first `count` partitions
+unfoldable pub partnersOf : (exclusions : List (List ℕ)) → (kind n count : ℕ) → List ℕ
+partnersOf exclusions kind n count = filled mostPartitions count (λ j. partnersIn exclusions kind j n) 0
 
 -- the chains of the first n whose largest member is j
 abbrev pub completedBy : (chains : List (List ℕ)) → (j n : ℕ) → ℕ
 completedBy chains j n = setOf (λ c. eqb (cell chains c 2) j) n
+
+unfoldable pub endingsOf : (chains : List (List ℕ)) → (n count : ℕ) → List ℕ
+endingsOf chains n count = filled mostPartitions count (λ j. completedBy chains j n) 0
+
+-- the desk of a sheet
+abbrev pub deskOf : Sheet → (delays : List (List ℕ)) → Desk
+deskOf s delays =
+    desk (periodsOf s) (budgetsOf s) (memoriesOf s) (divisorsOf (periodsOf s) (s .head .partitions)) (roomsOf s)
+    (partnersOf (exclusionsOf s) 0 (s .head .exclusions) (s .head .partitions)) (partnersOf (exclusionsOf s) 1 (s .head .exclusions) (s .head .partitions))
+    (endingsOf (chainsOf s) (s .head .chains) (s .head .partitions)) (chainsOf s) (membersOf s) delays
+
+-- how many starts partition j has: 0 to T - B
+abbrev pub widthOf : (periods budgets : List ℕ) → ℕ → ℕ
+widthOf periods budgets j = at periods j - at budgets j + 1
+
+-- the partitions before j on module m
+abbrev pub heldOn : (ms : List ℕ) → (m j : ℕ) → ℕ
+heldOn ms m j = setOf (isOn ms m) j
+
+-- C5 and C4 of module m, on which the partitions of a set are
+unfoldable pub roomIn : (memories : List ℕ) (rooms : List (List ℕ)) → (m set : ℕ) → Bool
+roomIn memories rooms m set = leb (sizeOf set) (cell rooms m 2) && leb (sumOver (at memories) set) (cell rooms m 1)
+
+-- C7 of partition i and one on module m
+unfoldable pub farther : (rooms : List (List ℕ)) (ms : List ℕ) → (m i : ℕ) → Bool
+farther rooms ms m i = not (eqb (cell rooms (at ms i) 0) (cell rooms m 0))
+
+-- module m admits partition j, whatever its start: C5, C4, C6 and C7
+unfoldable pub admitsOn : (memories : List ℕ) (rooms : List (List ℕ)) (apart far ms : List ℕ) → (m j : ℕ) → Bool
+admitsOn memories rooms apart far ms m j =
+    roomIn memories rooms m (withMember (heldOn ms m j) j)
+    && (disjoint (at apart j) (heldOn ms m j)
+    && eachIn (farther rooms ms m) (at far j))
+
+-- C2 of partitions i and j, which share a module
+abbrev pub clearWith : (divisors budgets ts : List ℕ) → (j i : ℕ) → Bool
+clearWith divisors budgets ts j i = clearBy (at divisors (pairAt i j)) (at ts i) (at budgets i) (at ts j) (at budgets j)
 
 -- C8 of chain c
 unfoldable pub keptAt : (periods budgets : List ℕ) (chains members delays : List (List ℕ)) (ms : List ℕ) → ℕ → Bool
 keptAt periods budgets chains members delays ms c =
     leb (chainDelay periods budgets delays ms (getD members c []) (cell chains c 1)) (cell chains c 0)
 
--- C8 of the chains that are complete with partition j
-unfoldable pub keptOf : (periods budgets : List ℕ) → ℕ → (chains members delays : List (List ℕ)) (ms : List ℕ) → ℕ → Bool
-keptOf periods budgets chained chains members delays ms j = eachIn (keptAt periods budgets chains members delays ms) (completedBy chains j chained)
+-- the module of partition j admits it, it is clear of those before it there, and the chains that it completes are kept
+unfoldable pub fitsWhere : Bool → (periods budgets divisors endings : List ℕ) (chains members delays : List (List ℕ)) (ms ts : List ℕ) → ℕ → Bool
+fitsWhere admitted periods budgets divisors endings chains members delays ms ts j =
+    admitted
+    && (eachIn (clearWith divisors budgets ts j) (heldOn ms (at ms j) j)
+    && eachIn (keptAt periods budgets chains members delays ms) (at endings j))
 
 -- the placement of partition j fits those of the partitions before it
-unfoldable pub fitsBy : Desk → (ms ts : List ℕ) → ℕ → Bool
+abbrev pub fitsBy : Desk → (ms ts : List ℕ) → ℕ → Bool
 fitsBy d ms ts j =
-    admitsOn (d .memories) (d .rooms) (d .excluded) (d .exclusions) ms (at ms j) j
-    && (clearOf (d .divisors) (d .budgets) ms ts j
-    && keptOf (d .periods) (d .budgets) (d .chained) (d .chains) (d .members) (d .delays) ms j)
+    fitsWhere (admitsOn (d .memories) (d .rooms) (d .apart) (d .far) ms (at ms j) j) (d .periods) (d .budgets) (d .divisors) (d .endings) (d .chains)
+    (d .members) (d .delays) ms ts j

@@ -1,4 +1,5 @@
-// What the search has at hand: the sheet as arrays of numbers, made once a search. Rows of three numbers; the constants name their places.
+// What the search has at hand: the sheet as arrays of numbers, made once a search. Rows of three numbers; the constants name their places. Sets of
+// partitions and of chains in 64-bit numbers.
 ghost use mathlib.Core.Path.{_≡_};
 ghost use mathlib.Core.List.{List};
 ghost use Prim.Native.Nat.{ℕ, _≤_, _<_};
@@ -7,7 +8,9 @@ ghost use Rattle.lists.specs.Filled.{filled};
 ghost use Rattle.model.specs.Limits.{mostModules, mostPartitions, mostExclusions, mostChains, mostMembers};
 ghost use Rattle.model.specs.None.{noModule, noExclusion, emptyChain};
 ghost use Rattle.judge.specs.Constraints.{at};
-ghost use Rattle.sound.specs.Desk.{roomOf, exclusionRow, chainRow, largest, divisorsOf};
+ghost use Rattle.sound.specs.Desk.{roomOf, exclusionRow, chainRow, largest, divisorsOf, pairsAt, partnersIn, partnersOf, completedBy, endingsOf};
+ghost use Rattle.sound.specs.Asked.{Ordered};
+use judge::widths::index;
 use judge::widths::member;
 use judge::widths::wide;
 use model::records::Chain;
@@ -186,6 +189,97 @@ pub fn members_of(chains: [Chain; Sheet::CHAINS], n: usize) -> [[u8; Chain::MEMB
         let row = c.members;
         all[i] = row;
         i += 1;
+    }
+    all
+}
+
+// Whether exclusion x is of the given kind and its second partition is j.
+fn pairs<'a>(
+    exclusions: &'a [[u8; Pair::PLACES]; Sheet::EXCLUSIONS],
+    kind: u8,
+    j: usize,
+    x: usize,
+) -> bool
+    requires { ⌜ x < mostExclusions ⌝ }
+    ensures { λ r. ⌜ r ≡ pairsAt (now (exclusions .entry)) kind j x ⌝ }
+{
+    if member(exclusions[x][Pair::SECOND]) == j {
+        exclusions[x][Pair::KIND] == kind
+    } else {
+        false
+    }
+}
+
+// The first partitions of the exclusions of the given kind whose second partition is j.
+fn partners<'a>(
+    excluded: usize,
+    exclusions: &'a [[u8; Pair::PLACES]; Sheet::EXCLUSIONS],
+    kind: u8,
+    j: usize,
+) -> u64
+    requires { ⌜ (excluded ≤ mostExclusions) × (j < mostPartitions) × Ordered (now exclusions) excluded ⌝ }
+    ensures { λ r. ⌜ r ≡ partnersIn (now (exclusions .entry)) kind j excluded ⌝ }
+{
+    let mut set: u64 = 0;
+    let mut x = 0;
+    while x < excluded {
+        if pairs(exclusions, kind, j, x) {
+            set = sets::with(set, member(exclusions[x][Pair::FIRST]));
+        }
+        x += 1;
+    }
+    set
+}
+
+// The same of each of the first `count` partitions.
+pub fn partners_of<'a>(
+    excluded: usize,
+    exclusions: &'a [[u8; Pair::PLACES]; Sheet::EXCLUSIONS],
+    kind: u8,
+    count: usize,
+) -> [u64; Sheet::PARTITIONS]
+    requires { ⌜ (excluded ≤ mostExclusions) × (count ≤ mostPartitions) × Ordered (now exclusions) excluded ⌝ }
+    ensures { λ r. ⌜ r ≡ partnersOf (now (exclusions .entry)) kind excluded count ⌝ }
+{
+    let mut all = [0u64; Sheet::PARTITIONS];
+    let mut j = 0;
+    while j < count {
+        all[j] = partners(excluded, exclusions, kind, j);
+        j += 1;
+    }
+    all
+}
+
+// The chains that are complete once partition j is placed: j is their largest member.
+fn completed<'a>(chained: usize, chains: &'a [[u32; Link::PLACES]; Sheet::CHAINS], j: usize) -> u64
+    requires { ⌜ chained ≤ mostChains ⌝ }
+    ensures { λ r. ⌜ r ≡ completedBy (now (chains .entry)) j chained ⌝ }
+{
+    let mut set: u64 = 0;
+    let mut c = 0;
+    while c < chained {
+        if index(chains[c][Link::LAST]) == j {
+            set = sets::with(set, c);
+        }
+        c += 1;
+    }
+    set
+}
+
+// The same of each of the first `count` partitions.
+pub fn endings_of<'a>(
+    chained: usize,
+    chains: &'a [[u32; Link::PLACES]; Sheet::CHAINS],
+    count: usize,
+) -> [u64; Sheet::PARTITIONS]
+    requires { ⌜ (chained ≤ mostChains) × (count ≤ mostPartitions) ⌝ }
+    ensures { λ r. ⌜ r ≡ endingsOf (now (chains .entry)) chained count ⌝ }
+{
+    let mut all = [0u64; Sheet::PARTITIONS];
+    let mut j = 0;
+    while j < count {
+        all[j] = completed(chained, chains, j);
+        j += 1;
     }
     all
 }

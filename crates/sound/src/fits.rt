@@ -1,21 +1,18 @@
-// The test of one try: whether the placement of partition j fits those of the partitions before it. Only what speaks of j is tested. What the
-// placement does not change is looked up once a partition (`partners`, `completed`), what its start does not change is asked once a module
-// (`beside`, `admits`).
+// The test of one try: whether the placement of partition j fits those of the partitions before it. Only what speaks of j is tested, and what its
+// start does not change is asked once for all starts on a module (`beside`, `admits`).
 ghost use mathlib.Core.Path.{_≡_};
-ghost use mathlib.Core.Bool.{not, _&&_};
-ghost use Prim.Native.Nat.{ℕ, _≤_, _<_, _^_};
-ghost use Rattle.sets.specs.Members.{member, withMember, setOf, eachIn};
-ghost use Rattle.model.specs.Limits.{mostModules, mostPartitions, mostExclusions, mostChains};
-ghost use Rattle.judge.specs.Constraints.{at, isOn};
+ghost use Prim.Native.Nat.{_≤_, _<_, _^_};
+ghost use Rattle.sets.specs.Members.{eachIn};
+ghost use Rattle.model.specs.Limits.{mostModules, mostPartitions};
+ghost use Rattle.judge.specs.Constraints.{at};
 ghost use Rattle.judge.specs.Asked.{Placed};
-ghost use Rattle.sound.specs.Desk.{pairAt, clearWith, clearOf, roomIn, pairsAt, partnersIn, farther, completedBy, keptAt};
-ghost use Rattle.sound.specs.Asked.{Divisible, Ordered, SetPlaced, ChainPlaced, ChainsPlaced, Admissible, Testable};
+ghost use Rattle.sound.specs.Desk.{pairAt, heldOn, roomIn, farther, admitsOn, clearWith, keptAt, fitsWhere};
+ghost use Rattle.sound.specs.Asked.{Divisible, SetPlaced, ChainPlaced, ChainsPlaced, Askable, Testable};
 use crate::desk::Link;
 use crate::desk::Pair;
 use crate::desk::Room;
 use judge::chains::chain_delay;
 use judge::widths::index;
-use judge::widths::member;
 use judge::widths::wide;
 use model::records::Chain;
 use model::records::Sheet;
@@ -23,7 +20,7 @@ use model::records::Sheet;
 // The set of those of the partitions before j that are on module m.
 pub fn beside(modules: &[u32; Sheet::PARTITIONS], m: u32, j: usize) -> u64
     requires { ⌜ j < mostPartitions ⌝ }
-    ensures { λ r. ⌜ r ≡ setOf (isOn (now (modules .entry)) m) j ⌝ }
+    ensures { λ r. ⌜ r ≡ heldOn (now (modules .entry)) m j ⌝ }
 {
     let mut set: u64 = 0;
     let mut i = 0;
@@ -50,44 +47,6 @@ fn room_for<'a>(
         return false;
     }
     sets::sum(memories, set) <= wide(rooms[m][Room::MEMORY])
-}
-
-// Whether exclusion x is of a kind and its second partition is j.
-fn pairs<'a>(
-    exclusions: &'a [[u8; Pair::PLACES]; Sheet::EXCLUSIONS],
-    kind: u8,
-    j: usize,
-    x: usize,
-) -> bool
-    requires { ⌜ x < mostExclusions ⌝ }
-    ensures { λ r. ⌜ r ≡ pairsAt (now (exclusions .entry)) kind j x ⌝ }
-{
-    if member(exclusions[x][Pair::SECOND]) == j {
-        exclusions[x][Pair::KIND] == kind
-    } else {
-        false
-    }
-}
-
-// The first partitions of the exclusions of a kind whose second partition is j.
-pub fn partners<'a>(
-    excluded: usize,
-    exclusions: &'a [[u8; Pair::PLACES]; Sheet::EXCLUSIONS],
-    kind: u8,
-    j: usize,
-) -> u64
-    requires { ⌜ (excluded ≤ mostExclusions) × (j < mostPartitions) × Ordered (now exclusions) excluded ⌝ }
-    ensures { λ r. ⌜ r ≡ partnersIn (now (exclusions .entry)) kind j excluded ⌝ }
-{
-    let mut set: u64 = 0;
-    let mut x = 0;
-    while x < excluded {
-        if pairs(exclusions, kind, j, x) {
-            set = sets::with(set, member(exclusions[x][Pair::FIRST]));
-        }
-        x += 1;
-    }
-    set
 }
 
 // C7 of partition i and one on module m.
@@ -124,29 +83,29 @@ fn far_from<'a>(
     true
 }
 
-// Whether module m admits partition j, whatever its start: C4 to C7. `held` are those before j that are on it; from the modules of `apart` and
-// the cabinets of `far` j is excluded.
+// Whether module m admits partition j, whatever its start: C4 to C7. `held` are the partitions before j on it.
 pub fn admits<'a>(
     memories: &'a [u32; Sheet::PARTITIONS],
     rooms: &'a [[u32; Room::PLACES]; Sheet::MODULES],
+    apart: &'a [u64; Sheet::PARTITIONS],
+    far: &'a [u64; Sheet::PARTITIONS],
     modules: &[u32; Sheet::PARTITIONS],
     m: u32,
     held: u64,
-    apart: u64,
-    far: u64,
     j: usize,
 ) -> bool
-    requires { ⌜ Admissible (now modules) m far j ⌝ }
-    ensures { λ r. ⌜ r ≡ (roomIn (now (memories .entry)) (now (rooms .entry)) m (withMember held j) && (eachIn (λ (i : ℕ). not (member held i)) apart && eachIn (farther (now (rooms .entry)) (now (modules .entry)) m) far)) ⌝ }
+    requires { ⌜ Askable (now far) (now modules) m j ⌝ }
+    requires { ⌜ held ≡ heldOn (now modules) m j ⌝ }
+    ensures { λ r. ⌜ r ≡ admitsOn (now (memories .entry)) (now (rooms .entry)) (now (apart .entry)) (now (far .entry)) (now (modules .entry)) m j ⌝ }
 {
     let set = sets::with(held, j);
     if !room_for(memories, rooms, index(m), set) {
         return false;
     }
-    if !sets::apart(held, apart) {
+    if !sets::apart(apart[j], held) {
         return false;
     }
-    far_from(rooms, modules, m, far)
+    far_from(rooms, modules, m, far[j])
 }
 
 // C2 of partitions i and j, which share a module, by the divisor of the pair.
@@ -191,26 +150,6 @@ fn clear_of<'a>(
     true
 }
 
-// The chains that are complete with partition j.
-pub fn completed<'a>(
-    chained: usize,
-    chains: &'a [[u32; Link::PLACES]; Sheet::CHAINS],
-    j: usize,
-) -> u64
-    requires { ⌜ chained ≤ mostChains ⌝ }
-    ensures { λ r. ⌜ r ≡ completedBy (now (chains .entry)) j chained ⌝ }
-{
-    let mut set: u64 = 0;
-    let mut c = 0;
-    while c < chained {
-        if index(chains[c][Link::LAST]) == j {
-            set = sets::with(set, c);
-        }
-        c += 1;
-    }
-    set
-}
-
 // C8 of chain c.
 fn kept_at<'a>(
     periods: &'a [u32; Sheet::PARTITIONS],
@@ -253,25 +192,25 @@ fn kept_of<'a>(
     true
 }
 
-// The placement of partition j fits those of the partitions before it. `admitted` says whether its module admits it, `held` are those before j
-// that are on it, and `ending` the chains that j completes.
+// The placement of partition j fits those of the partitions before it. `held` are those of them that are on its module, and `admitted` says whether
+// the module admits it.
 pub fn fits<'a>(
     periods: &'a [u32; Sheet::PARTITIONS],
     budgets: &'a [u32; Sheet::PARTITIONS],
     divisors: &'a [u32; Pair::DIVISORS],
+    endings: &'a [u64; Sheet::PARTITIONS],
     chains: &'a [[u32; Link::PLACES]; Sheet::CHAINS],
     members: &'a [[u8; Chain::MEMBERS]; Sheet::CHAINS],
     delays: &'a [[u16; Sheet::MODULES]; Sheet::MODULES],
     modules: &[u32; Sheet::PARTITIONS],
     starts: &[u32; Sheet::PARTITIONS],
-    ending: u64,
     held: u64,
     admitted: bool,
     j: usize,
 ) -> bool
-    requires { ⌜ Testable (now divisors) (now chains) (now members) (now modules) ending j ⌝ }
-    requires { ⌜ held ≡ setOf (isOn (now modules) (at (now modules) j)) j ⌝ }
-    ensures { λ r. ⌜ r ≡ (admitted && (clearOf (now (divisors .entry)) (now (budgets .entry)) (now (modules .entry)) (now (starts .entry)) j && eachIn (keptAt (now (periods .entry)) (now (budgets .entry)) (now (chains .entry)) (now (members .entry)) (now (delays .entry)) (now (modules .entry))) ending)) ⌝ }
+    requires { ⌜ Testable (now divisors) (now endings) (now chains) (now members) (now modules) j ⌝ }
+    requires { ⌜ held ≡ heldOn (now modules) (at (now modules) j) j ⌝ }
+    ensures { λ r. ⌜ r ≡ fitsWhere admitted (now (periods .entry)) (now (budgets .entry)) (now (divisors .entry)) (now (endings .entry)) (now (chains .entry)) (now (members .entry)) (now (delays .entry)) (now (modules .entry)) (now (starts .entry)) j ⌝ }
 {
     if !admitted {
         return false;
@@ -279,5 +218,13 @@ pub fn fits<'a>(
     if !clear_of(divisors, budgets, starts, held, j) {
         return false;
     }
-    kept_of(periods, budgets, chains, members, delays, modules, ending)
+    kept_of(
+        periods,
+        budgets,
+        chains,
+        members,
+        delays,
+        modules,
+        endings[j],
+    )
 }

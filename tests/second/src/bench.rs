@@ -123,14 +123,21 @@ fn many_constraints() -> Sheet {
     let mut random = Random::new(78);
     let mut sheet = sheet(16, (0..64).map(|_| partition(100, 1)).collect());
     for _ in 0..400 {
-        let second = random.between(1, 61) as usize;
+        let second = random.between(1, 63) as usize;
         let first = random.below(second as u64) as usize;
-        sheet.exclusions.push(Exclusion { cabinet: false, first, second });
+        sheet.exclusions.push(Exclusion { cabinet: random.once_in(8), first, second });
     }
     for start in 0..31 {
         sheet.chains.push(Chain { limit: 100_000, members: vec![start, 32, 33, 34, 60] });
     }
     sheet.chains.push(Chain { limit: 10, members: vec![31, 32, 33, 34, 63] });
+    sheet
+}
+
+/// The same with one start for each partition, and so one partition to a module: next to nothing to share between tries.
+fn one_start() -> Sheet {
+    let mut sheet = many_constraints();
+    sheet.partitions = (0..64).map(|_| partition(100, 100)).collect();
     sheet
 }
 
@@ -252,6 +259,7 @@ pub fn run() -> ! {
     tries("tries: 6 partitions, periods of some ten thousands, 2 modules", &long_periods());
     tries("tries: 40 partitions, 16 modules, 60 exclusions, 8 chains", &many_modules());
     tries("tries: 64 partitions, 16 modules, 400 exclusions, 32 chains", &many_constraints());
+    tries("tries: the same with one start for each partition", &one_start());
     println!("\nmedians of {ROUNDS} measurements of at least {SECONDS} s each, product and fast form turn by turn");
     std::process::exit(0)
 }

@@ -300,7 +300,24 @@ struct Search<'a> {
 }
 
 impl Search<'_> {
-    /// Whether partition j on a module at a start keeps the plan sound, which is sound below j.
+    /// Whether a module takes partition j, whatever its start: memory, number and exclusions.
+    #[inline]
+    fn admits(&self, j: usize, module: usize) -> bool {
+        let sheet = self.sheet;
+        if self.used[module] + sheet.need[j] > sheet.memory[module] {
+            return false;
+        }
+        if self.sets[module].count_ones() + 1 > u32::from(sheet.most[module]) {
+            return false;
+        }
+        self.exclusions[j].iter().all(|e| {
+            let other = self.plan.module[e.first as usize] as usize;
+            let same = if e.cabinet { sheet.cabinet[other] == sheet.cabinet[module] } else { other == module };
+            !same
+        })
+    }
+
+    /// Whether partition j at a start on a module that admits it keeps the plan sound, which is sound below j.
     #[inline]
     fn fits(&self, j: usize, module: usize, start: u32) -> bool {
         let sheet = self.sheet;
@@ -312,19 +329,6 @@ impl Search<'_> {
                 return false;
             }
         }
-        if self.used[module] + sheet.need[j] > sheet.memory[module] {
-            return false;
-        }
-        if self.sets[module].count_ones() + 1 > u32::from(sheet.most[module]) {
-            return false;
-        }
-        for e in &self.exclusions[j] {
-            let other = self.plan.module[e.first as usize] as usize;
-            let same = if e.cabinet { sheet.cabinet[other] == sheet.cabinet[module] } else { other == module };
-            if same {
-                return false;
-            }
-        }
         self.chains[j].iter().all(|chain| chain_delay(sheet, &self.plan.module, chain) <= chain.limit)
     }
 
@@ -333,12 +337,13 @@ impl Search<'_> {
         let last = self.sheet.period[j] - self.sheet.budget[j];
         for module in 0..self.sheet.modules {
             self.plan.module[j] = module as u8;
+            let admitted = self.admits(j, module);
             for start in 0..=last {
                 if self.made == self.budget {
                     return STOPPED;
                 }
                 self.made += 1;
-                if !self.fits(j, module, start) {
+                if !admitted || !self.fits(j, module, start) {
                     continue;
                 }
                 self.plan.start[j] = start;

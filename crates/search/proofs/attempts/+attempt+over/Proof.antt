@@ -1,15 +1,12 @@
-use mathlib.Core.Path.{_≡_, refl, sym, _∙_, ap}
+use mathlib.Core.Path.{_≡_, refl, sym, _∙_}
 use Prim.Native.Nat.{ℕ, _+_, _-_, _*_, _<_, _≤_}
 use native.Mathlib.Omega.{arith}
 use lib.ListN.{getD}
-use Rattle.sets.specs.Members.{setOf}
-use Rattle.judge.specs.Constraints.{isOn}
 use Rattle.tries.proofs.Tried as tried
 use Rattle.tries.proofs.Going.{Rows, Cols, begin, enter, turn, done, leave, hit, halt}
-use Rattle.sound.specs.Desk.{desk, widthOf, fitsBy, partnersIn, admitsOn, completedBy}
+use Rattle.sound.specs.Desk.{desk, widthOf, heldOn, fitsBy, admitsOn}
 use Rattle.sound.proofs.Alike.{held-alike, admits-alike}
-use Rattle.sound.proofs.Tested.{admits-is, by-parts}
-use Rattle.sound.proofs.Laid.{ready-alike, inside, admissible, try-testable, try-held, try-admitted, next-ready, among, past}
+use Rattle.sound.proofs.Laid.{ready-alike, inside, askable, try-testable, try-held, try-fits, next-ready, among, past}
 use borrow.Fn.Kinds.{In}
 use borrow.Fn.PlainCycle.{Measures, is, falls, and}
 use Rattle.search.proofs.attempts.attempt.Reads as attempt
@@ -20,9 +17,7 @@ use Rattle.search.proofs.attempts.over.Kinds as over-kinds
 use Rattle.search.proofs.attempts.+attempt+over.Lts-over as over-lts
 use Rattle.sound.proofs.fits.admits.Reads as admits-reads
 use Rattle.sound.proofs.fits.beside.Reads as beside-reads
-use Rattle.sound.proofs.fits.completed.Reads as completed-reads
 use Rattle.sound.proofs.fits.fits.Reads as fits-reads
-use Rattle.sound.proofs.fits.partners.Reads as partners-reads
 use Rattle.search.proofs.attempts.+attempt+over.{statement}
 use Rattle.search.proofs.attempts.+attempt+over.Tie.{close}
 
@@ -90,7 +85,7 @@ attempt-fits-requires : (t : ℕ) → attempt-lts.Need-fits-requires (
   over-below t,
   over.Post,
 ) (attempt-at t) attempt.Post
-attempt-fits-requires t c κs = let p = c .before .before .before .pre .1 in (try-testable _ _ _ _ _ (p .1 .1) _ (p .0 .0) (p .0 .2), try-held _ _ _ _ _ (p .1 .1) _ (p .0 .0) (p .0 .1))
+attempt-fits-requires t c κs = let p = c .before .before .before .pre .1 in (try-testable _ _ _ _ _ (p .1 .1) _ (p .0 .0), try-held _ _ _ _ _ (p .1 .1) _ (p .0 .0) (p .0 .1))
 
 attempt-add-if3 : (t : ℕ) → attempt-lts.Need-add-if3 (
   fits-reads.Asked,
@@ -130,7 +125,23 @@ attempt-returns-2 : (t : ℕ) → attempt-lts.Need-returns-2 (
   over-below t,
   over.Post,
 ) (attempt-at t) attempt.Post
-attempt-returns-2 t c = tried.goes _ _ _ _ _ _ _ _ _ _ _ _ _ (c .before .before .before .before .before .before .before .before .if1 .left) (by-parts _ _ _ _ (c .before .before .before .before .before .fits2 .ensures) (try-admitted _ _ _ _ _ (c .before .before .before .before .before .before .before .before .before .pre .1 .1 .1) _ (c .before .before .before .before .before .before .before .before .before .pre .1 .0 .0) (c .before .before .before .before .before .before .before .before .before .pre .1 .1 .0)) (c .before .before .before .before .before .before .before .before .before .pre .1 .0 .2)) _ (c .before .before .before .before .if2 .taken) (c .before .before .before .if3 .taken) (c .over .ensures)
+attempt-returns-2 t c = tried.goes _ _ _ _ _ _ _ _ _ _ _ _ _ (c .before .before .before .before .before .before .before .before .if1 .left) (try-fits _ _ _ _ _ (c .before .before .before .before .before .before .before .before .before .pre .1 .1 .1) _ (c .before .before .before .before .before .before .before .before .before .pre .1 .0 .0) _ (c .before .before .before .before .before .fits2 .ensures) (c .before .before .before .before .before .before .before .before .before .pre .1 .1 .0)) _ (c .before .before .before .before .if2 .taken) (c .before .before .before .if3 .taken) (c .over .ensures)
+
+attempt-add-t38 : (t : ℕ) → attempt-lts.Need-add-t38 (
+  fits-reads.Asked,
+  fits-reads.Learnt,
+  over-below t,
+  over.Post,
+) (attempt-at t) attempt.Post
+attempt-add-t38 t c = omega arith
+
+attempt-returns-3 : (t : ℕ) → attempt-lts.Need-returns-3 (
+  fits-reads.Asked,
+  fits-reads.Learnt,
+  over-below t,
+  over.Post,
+) (attempt-at t) attempt.Post
+attempt-returns-3 t c = tried.finds _ _ _ _ _ _ _ _ _ _ _ _ _ (c .before .before .before .before .before .if1 .left) (try-fits _ _ _ _ _ (c .before .before .before .before .before .before .pre .1 .1 .1) _ (c .before .before .before .before .before .before .pre .1 .0 .0) _ (c .before .before .fits2 .ensures) (c .before .before .before .before .before .before .pre .1 .1 .0)) (c .before .if2 .taken) (c .if3 .left)
 
 attempt-add-t39 : (t : ℕ) → attempt-lts.Need-add-t39 (
   fits-reads.Asked,
@@ -140,59 +151,35 @@ attempt-add-t39 : (t : ℕ) → attempt-lts.Need-add-t39 (
 ) (attempt-at t) attempt.Post
 attempt-add-t39 t c = omega arith
 
-attempt-returns-3 : (t : ℕ) → attempt-lts.Need-returns-3 (
-  fits-reads.Asked,
-  fits-reads.Learnt,
-  over-below t,
-  over.Post,
-) (attempt-at t) attempt.Post
-attempt-returns-3 t c = tried.finds _ _ _ _ _ _ _ _ _ _ _ _ _ (c .before .before .before .before .before .if1 .left) (by-parts _ _ _ _ (c .before .before .fits2 .ensures) (try-admitted _ _ _ _ _ (c .before .before .before .before .before .before .pre .1 .1 .1) _ (c .before .before .before .before .before .before .pre .1 .0 .0) (c .before .before .before .before .before .before .pre .1 .1 .0)) (c .before .before .before .before .before .before .pre .1 .0 .2)) (c .before .if2 .taken) (c .if3 .left)
-
-attempt-add-t40 : (t : ℕ) → attempt-lts.Need-add-t40 (
-  fits-reads.Asked,
-  fits-reads.Learnt,
-  over-below t,
-  over.Post,
-) (attempt-at t) attempt.Post
-attempt-add-t40 t c = omega arith
-
 attempt-returns-4 : (t : ℕ) → attempt-lts.Need-returns-4 (
   fits-reads.Asked,
   fits-reads.Learnt,
   over-below t,
   over.Post,
 ) (attempt-at t) attempt.Post
-attempt-returns-4 t c = tried.fails _ _ _ _ _ _ _ _ _ _ _ _ _ (c .before .before .before .before .if1 .left) (by-parts _ _ _ _ (c .before .fits2 .ensures) (try-admitted _ _ _ _ _ (c .before .before .before .before .before .pre .1 .1 .1) _ (c .before .before .before .before .before .pre .1 .0 .0) (c .before .before .before .before .before .pre .1 .1 .0)) (c .before .before .before .before .before .pre .1 .0 .2)) (c .if2 .left)
+attempt-returns-4 t c = tried.fails _ _ _ _ _ _ _ _ _ _ _ _ _ (c .before .before .before .before .if1 .left) (try-fits _ _ _ _ _ (c .before .before .before .before .before .pre .1 .1 .1) _ (c .before .before .before .before .before .pre .1 .0 .0) _ (c .before .fits2 .ensures) (c .before .before .before .before .before .pre .1 .1 .0)) (c .if2 .left)
 
 abbrev over-Inv-loop2 : over-lts.InvT-loop2
-over-Inv-loop2 count hosts periods budgets memories divisors rooms excluded exclusions chained chains members delays modules₀ starts₀ j limit tries last apart far ending k₀ m held admitted t₀ modules starts k t =
-    Cols count hosts (widthOf periods budgets) (fitsBy (desk periods budgets memories divisors rooms excluded exclusions chained chains members delays)) limit j modules₀ starts₀ k₀ modules starts k m t
-    × (held ≡ setOf (isOn modules₀ m) j)
-    × (admitted ≡ admitsOn memories rooms excluded exclusions modules₀ m j)
+over-Inv-loop2 count hosts periods budgets memories divisors rooms apart far endings chains members delays modules₀ starts₀ j limit tries last k₀ m held admitted t₀ modules starts k t =
+    Cols count hosts (widthOf periods budgets) (fitsBy (desk periods budgets memories divisors rooms apart far endings chains members delays)) limit j modules₀ starts₀ k₀ modules starts k m t
+    × (held ≡ heldOn modules₀ m j)
+    × (admitted ≡ admitsOn memories rooms apart far modules₀ m j)
     × (last ≡ getD periods j 0 - getD budgets j 0)
     × (t ≤ last + 1)
-    × (ending ≡ completedBy chains j chained)
 
 abbrev over-μ-loop2 : over-lts.MeasureT-loop2
-over-μ-loop2 count hosts periods budgets memories divisors rooms excluded exclusions chained chains members delays modules₀ starts₀ j limit tries last apart far ending k₀ m held admitted t₀ modules starts k t =
+over-μ-loop2 count hosts periods budgets memories divisors rooms apart far endings chains members delays modules₀ starts₀ j limit tries last k₀ m held admitted t₀ modules starts k t =
     last + 1 - t
 
 abbrev over-Inv-loop : over-lts.InvT-loop
-over-Inv-loop count hosts periods budgets memories divisors rooms excluded exclusions chained chains members delays modules₀ starts₀ j limit tries last apart far ending k₀ m₀ modules starts k m =
-    Rows count hosts (widthOf periods budgets) (fitsBy (desk periods budgets memories divisors rooms excluded exclusions chained chains members delays)) limit j modules₀ starts₀ k₀ modules starts k m × (last ≡ getD periods j 0 - getD budgets j 0)
-    × (apart ≡ partnersIn exclusions 0 j excluded)
-    × (far ≡ partnersIn exclusions 1 j excluded)
-    × (ending ≡ completedBy chains j chained)
+over-Inv-loop count hosts periods budgets memories divisors rooms apart far endings chains members delays modules₀ starts₀ j limit tries last k₀ m₀ modules starts k m =
+    Rows count hosts (widthOf periods budgets) (fitsBy (desk periods budgets memories divisors rooms apart far endings chains members delays)) limit j modules₀ starts₀ k₀ modules starts k m × (last ≡ getD periods j 0 - getD budgets j 0)
 
 abbrev over-μ-loop : over-lts.MeasureT-loop
-over-μ-loop count hosts periods budgets memories divisors rooms excluded exclusions chained chains members delays modules₀ starts₀ j limit tries last apart far ending k₀ m₀ modules starts k m =
+over-μ-loop count hosts periods budgets memories divisors rooms apart far endings chains members delays modules₀ starts₀ j limit tries last k₀ m₀ modules starts k m =
     hosts - m
 
 over-mul-last : (t : ℕ) → over-lts.Need-mul-last (
-  partners-reads.Asked,
-  partners-reads.Learnt,
-  completed-reads.Asked,
-  completed-reads.Learnt,
   beside-reads.Asked,
   beside-reads.Learnt,
   admits-reads.Asked,
@@ -203,10 +190,6 @@ over-mul-last : (t : ℕ) → over-lts.Need-mul-last (
 over-mul-last t c = omega (arith, c .pre .1 .laid .room, c .pre .1 .left)
 
 over-element-copy-out-last : (t : ℕ) → over-lts.Need-element-copy-out-last (
-  partners-reads.Asked,
-  partners-reads.Learnt,
-  completed-reads.Asked,
-  completed-reads.Learnt,
   beside-reads.Asked,
   beside-reads.Learnt,
   admits-reads.Asked,
@@ -217,10 +200,6 @@ over-element-copy-out-last : (t : ℕ) → over-lts.Need-element-copy-out-last (
 over-element-copy-out-last t c = omega (arith, c .pre .1 .laid .room, c .pre .1 .left)
 
 over-mul-last-2 : (t : ℕ) → over-lts.Need-mul-last-2 (
-  partners-reads.Asked,
-  partners-reads.Learnt,
-  completed-reads.Asked,
-  completed-reads.Learnt,
   beside-reads.Asked,
   beside-reads.Learnt,
   admits-reads.Asked,
@@ -231,10 +210,6 @@ over-mul-last-2 : (t : ℕ) → over-lts.Need-mul-last-2 (
 over-mul-last-2 t c = omega (arith, c .before .pre .1 .laid .room, c .before .pre .1 .left)
 
 over-element-copy-out-last-2 : (t : ℕ) → over-lts.Need-element-copy-out-last-2 (
-  partners-reads.Asked,
-  partners-reads.Learnt,
-  completed-reads.Asked,
-  completed-reads.Learnt,
   beside-reads.Asked,
   beside-reads.Learnt,
   admits-reads.Asked,
@@ -245,10 +220,6 @@ over-element-copy-out-last-2 : (t : ℕ) → over-lts.Need-element-copy-out-last
 over-element-copy-out-last-2 t c = omega (arith, c .before .pre .1 .laid .room, c .before .pre .1 .left)
 
 over-sub-last : (t : ℕ) → over-lts.Need-sub-last (
-  partners-reads.Asked,
-  partners-reads.Learnt,
-  completed-reads.Asked,
-  completed-reads.Learnt,
   beside-reads.Asked,
   beside-reads.Learnt,
   admits-reads.Asked,
@@ -258,53 +229,7 @@ over-sub-last : (t : ℕ) → over-lts.Need-sub-last (
 ) (over-at t) over.Post over-Inv-loop2 over-μ-loop2 over-Inv-loop over-μ-loop
 over-sub-last t c = c .before .before .pre .1 .laid .within (c .before .before .args .j) (c .before .before .pre .1 .left)
 
-over-partners-requires : (t : ℕ) → over-lts.Need-partners-requires (
-  partners-reads.Asked,
-  partners-reads.Learnt,
-  completed-reads.Asked,
-  completed-reads.Learnt,
-  beside-reads.Asked,
-  beside-reads.Learnt,
-  admits-reads.Asked,
-  admits-reads.Learnt,
-  attempt-below t,
-  attempt.Post,
-) (over-at t) over.Post over-Inv-loop2 over-μ-loop2 over-Inv-loop over-μ-loop
-over-partners-requires t c κs = let r = c .before .before .pre .1 in (r .laid .excluded, inside _ _ _ _ _ r, r .laid .order)
-
-over-partners-requires-2 : (t : ℕ) → over-lts.Need-partners-requires-2 (
-  partners-reads.Asked,
-  partners-reads.Learnt,
-  completed-reads.Asked,
-  completed-reads.Learnt,
-  beside-reads.Asked,
-  beside-reads.Learnt,
-  admits-reads.Asked,
-  admits-reads.Learnt,
-  attempt-below t,
-  attempt.Post,
-) (over-at t) over.Post over-Inv-loop2 over-μ-loop2 over-Inv-loop over-μ-loop
-over-partners-requires-2 t c κs = let r = c .before .before .before .pre .1 in (r .laid .excluded, inside _ _ _ _ _ r, r .laid .order)
-
-over-completed-requires : (t : ℕ) → over-lts.Need-completed-requires (
-  partners-reads.Asked,
-  partners-reads.Learnt,
-  completed-reads.Asked,
-  completed-reads.Learnt,
-  beside-reads.Asked,
-  beside-reads.Learnt,
-  admits-reads.Asked,
-  admits-reads.Learnt,
-  attempt-below t,
-  attempt.Post,
-) (over-at t) over.Post over-Inv-loop2 over-μ-loop2 over-Inv-loop over-μ-loop
-over-completed-requires t c κs = c .before .before .before .before .pre .1 .laid .chained
-
 over-loop-holds : (t : ℕ) → over-lts.Need-loop-holds (
-  partners-reads.Asked,
-  partners-reads.Learnt,
-  completed-reads.Asked,
-  completed-reads.Learnt,
   beside-reads.Asked,
   beside-reads.Learnt,
   admits-reads.Asked,
@@ -312,13 +237,9 @@ over-loop-holds : (t : ℕ) → over-lts.Need-loop-holds (
   attempt-below t,
   attempt.Post,
 ) (over-at t) over.Post over-Inv-loop2 over-μ-loop2 over-Inv-loop over-μ-loop
-over-loop-holds t c = (begin _ _ _ _ _ _ _ _ _ (c .before .before .before .before .before .pre .1 .left), refl, c .before .before .partners .ensures, c .before .partners2 .ensures, c .completed .ensures)
+over-loop-holds t c = (begin _ _ _ _ _ _ _ _ _ (c .before .before .pre .1 .left), refl)
 
 over-beside-requires : (t : ℕ) → over-lts.Need-beside-requires (
-  partners-reads.Asked,
-  partners-reads.Learnt,
-  completed-reads.Asked,
-  completed-reads.Learnt,
   beside-reads.Asked,
   beside-reads.Learnt,
   admits-reads.Asked,
@@ -326,13 +247,9 @@ over-beside-requires : (t : ℕ) → over-lts.Need-beside-requires (
   attempt-below t,
   attempt.Post,
 ) (over-at t) over.Post over-Inv-loop2 over-μ-loop2 over-Inv-loop over-μ-loop
-over-beside-requires t c κs = inside _ _ _ _ _ (c .before .before .before .before .before .before .before .before .pre .1)
+over-beside-requires t c κs = inside _ _ _ _ _ (c .before .before .before .before .before .pre .1)
 
 over-admits-requires : (t : ℕ) → over-lts.Need-admits-requires (
-  partners-reads.Asked,
-  partners-reads.Learnt,
-  completed-reads.Asked,
-  completed-reads.Learnt,
   beside-reads.Asked,
   beside-reads.Learnt,
   admits-reads.Asked,
@@ -341,15 +258,11 @@ over-admits-requires : (t : ℕ) → over-lts.Need-admits-requires (
   attempt.Post,
 ) (over-at t) over.Post over-Inv-loop2 over-μ-loop2 over-Inv-loop over-μ-loop
 over-admits-requires t c κs =
-    let row = c .before .before .before .before .loop in
-    let ready = ready-alike _ _ _ _ _ (c .before .before .before .before .before .before .before .before .before .before .pre .1) _ (row .inv .0 .kept .long) (row .inv .0 .kept .same) in
-    admissible _ _ _ _ _ ready _ (c .before .before .before .loop-test .taken) (row .inv .3)
+    let kept = c .before .before .before .before .loop .inv .0 .kept in
+    let ready = ready-alike _ _ _ _ _ (c .before .before .before .before .before .before .before .pre .1) _ (kept .long) (kept .same) in
+    (askable _ _ _ _ _ ready _ (c .before .before .before .loop-test .taken), c .before .beside .ensures)
 
 over-loop2-holds : (t : ℕ) → over-lts.Need-loop2-holds (
-  partners-reads.Asked,
-  partners-reads.Learnt,
-  completed-reads.Asked,
-  completed-reads.Learnt,
   beside-reads.Asked,
   beside-reads.Learnt,
   admits-reads.Asked,
@@ -357,22 +270,9 @@ over-loop2-holds : (t : ℕ) → over-lts.Need-loop2-holds (
   attempt-below t,
   attempt.Post,
 ) (over-at t) over.Post over-Inv-loop2 over-μ-loop2 over-Inv-loop over-μ-loop
-over-loop2-holds t c =
-    let start = c .before .before .before .before .before .before .before .before .before .before .before in
-    let a = start .args in
-    let row = c .before .before .before .before .before .loop in
-    let held = c .before .before .beside .ensures in
-    let admitted =
-    admits-is (a .memories .now) (a .rooms .now) (row .modules) (row .m) (a .j) _ _ _ (a .excluded) (a .exclusions .now) (inside _ _ _ _ _ (start .pre .1))
-    (start .pre .1 .laid .order) held (row .inv .2) (row .inv .3)
-    in
-    (enter _ _ _ _ _ _ _ _ _ _, held, c .admits .ensures ∙ admitted, row .inv .1, omega arith, row .inv .4)
+over-loop2-holds t c = (enter _ _ _ _ _ _ _ _ _ _, c .before .before .beside .ensures, c .admits .ensures, c .before .before .before .before .before .loop .inv .1, omega arith)
 
 over-attempt-requires : (t : ℕ) → over-lts.Need-attempt-requires (
-  partners-reads.Asked,
-  partners-reads.Learnt,
-  completed-reads.Asked,
-  completed-reads.Learnt,
   beside-reads.Asked,
   beside-reads.Learnt,
   admits-reads.Asked,
@@ -381,7 +281,7 @@ over-attempt-requires : (t : ℕ) → over-lts.Need-attempt-requires (
   attempt.Post,
 ) (over-at t) over.Post over-Inv-loop2 over-μ-loop2 over-Inv-loop over-μ-loop
 over-attempt-requires t c κs =
-    let start = c .before .before .before .before .before .before .before .before .before .before .before .before .before .before .before in
+    let start = c .before .before .before .before .before .before .before .before .before .before .before .before in
     let a = start .args in
     let row = c .before .before .before .before .before .before .before .before .before .loop in
     let col = c .before .before .before .loop2 in
@@ -389,20 +289,16 @@ over-attempt-requires t c κs =
     let ready = ready-alike _ _ _ (row .modules) _ (ready-alike _ _ _ _ _ (start .pre .1) _ (row .inv .0 .kept .long) (row .inv .0 .kept .same)) _ (now .long) (now .same) in (
       omega (arith, start .pre .0),
       (
-        (c .before .before .before .before .before .before .before .before .loop-test .taken, col .inv .1 ∙ held-alike (row .modules) (col .modules) (row .m) (a .j) (λ i l. sym (now .same i l)), col .inv .5),
+        (c .before .before .before .before .before .before .before .before .loop-test .taken, col .inv .1 ∙ held-alike (row .modules) (col .modules) (row .m) (a .j) (λ i l. sym (now .same i l))),
         (
           col .inv .2
-              ∙ admits-alike (row .modules) (col .modules) (row .m) (a .j) (λ i l. sym (now .same i l)) (a .memories .now) (a .rooms .now) (a .excluded) (a .exclusions .now) (inside _ _ _ _ _ (start .pre .1)) (start .pre .1 .laid .order),
+              ∙ admits-alike (row .modules) (col .modules) (row .m) (a .j) (λ i l. sym (now .same i l)) (a .memories .now) (a .rooms .now) (a .apart .now) (a .far .now) (start .pre .1 .laid .far (a .j) (start .pre .1 .left)),
           ready,
         ),
       ),
     )
 
 over-returns : (t : ℕ) → over-lts.Need-returns (
-  partners-reads.Asked,
-  partners-reads.Learnt,
-  completed-reads.Asked,
-  completed-reads.Learnt,
   beside-reads.Asked,
   beside-reads.Learnt,
   admits-reads.Asked,
@@ -413,10 +309,6 @@ over-returns : (t : ℕ) → over-lts.Need-returns (
 over-returns t c = hit _ _ _ _ _ _ _ _ _ _ _ _ _ (c .before .before .before .before .before .before .before .before .before .before .before .loop .inv .0) (c .before .before .before .before .before .before .before .before .before .before .loop-test .taken) _ _ _ _ (c .before .before .before .before .before .loop2 .inv .0) (among _ _ _ _ (c .before .before .before .before .before .loop2 .inv .3) (c .before .before .before .before .loop2-test .taken)) _ (c .before .attempt .ensures) (c .if1 .taken)
 
 over-returns-2 : (t : ℕ) → over-lts.Need-returns-2 (
-  partners-reads.Asked,
-  partners-reads.Learnt,
-  completed-reads.Asked,
-  completed-reads.Learnt,
   beside-reads.Asked,
   beside-reads.Learnt,
   admits-reads.Asked,
@@ -427,10 +319,6 @@ over-returns-2 : (t : ℕ) → over-lts.Need-returns-2 (
 over-returns-2 t c = halt _ _ _ _ _ _ _ _ _ _ _ _ _ (c .before .before .before .before .before .before .before .before .before .before .before .before .loop .inv .0) (c .before .before .before .before .before .before .before .before .before .before .before .loop-test .taken) _ _ _ _ (c .before .before .before .before .before .before .loop2 .inv .0) (among _ _ _ _ (c .before .before .before .before .before .before .loop2 .inv .3) (c .before .before .before .before .before .loop2-test .taken)) _ (c .before .before .attempt .ensures) (c .if2 .taken)
 
 over-add-t : (t : ℕ) → over-lts.Need-add-t (
-  partners-reads.Asked,
-  partners-reads.Learnt,
-  completed-reads.Asked,
-  completed-reads.Learnt,
   beside-reads.Asked,
   beside-reads.Learnt,
   admits-reads.Asked,
@@ -438,13 +326,9 @@ over-add-t : (t : ℕ) → over-lts.Need-add-t (
   attempt-below t,
   attempt.Post,
 ) (over-at t) over.Post over-Inv-loop2 over-μ-loop2 over-Inv-loop over-μ-loop
-over-add-t t c = omega (arith, c .before .before .before .before .before .before .before .before .before .before .before .before .before .before .before .before .before .before .pre .1 .laid .short (c .before .before .before .before .before .before .before .before .before .before .before .before .before .before .before .before .before .before .args .j) (c .before .before .before .before .before .before .before .before .before .before .before .before .before .before .before .before .before .before .pre .1 .left), c .before .before .before .before .before .before .loop2 .inv .3, c .before .before .before .before .before .loop2-test .taken)
+over-add-t t c = omega (arith, c .before .before .before .before .before .before .before .before .before .before .before .before .before .before .before .pre .1 .laid .short (c .before .before .before .before .before .before .before .before .before .before .before .before .before .before .before .args .j) (c .before .before .before .before .before .before .before .before .before .before .before .before .before .before .before .pre .1 .left), c .before .before .before .before .before .before .loop2 .inv .3, c .before .before .before .before .before .loop2-test .taken)
 
 over-loop2-less : (t : ℕ) → over-lts.Need-loop2-less (
-  partners-reads.Asked,
-  partners-reads.Learnt,
-  completed-reads.Asked,
-  completed-reads.Learnt,
   beside-reads.Asked,
   beside-reads.Learnt,
   admits-reads.Asked,
@@ -455,10 +339,6 @@ over-loop2-less : (t : ℕ) → over-lts.Need-loop2-less (
 over-loop2-less t c = omega (arith, c .before .before .before .before .before .loop2-test .taken)
 
 over-loop2-again : (t : ℕ) → over-lts.Need-loop2-again (
-  partners-reads.Asked,
-  partners-reads.Learnt,
-  completed-reads.Asked,
-  completed-reads.Learnt,
   beside-reads.Asked,
   beside-reads.Learnt,
   admits-reads.Asked,
@@ -466,13 +346,9 @@ over-loop2-again : (t : ℕ) → over-lts.Need-loop2-again (
   attempt-below t,
   attempt.Post,
 ) (over-at t) over.Post over-Inv-loop2 over-μ-loop2 over-Inv-loop over-μ-loop
-over-loop2-again t c = (turn _ _ _ _ _ _ _ _ _ _ _ _ _ _ (c .before .before .before .before .before .before .loop2 .inv .0) (among _ _ _ _ (c .before .before .before .before .before .before .loop2 .inv .3) (c .before .before .before .before .before .loop2-test .taken)) _ (c .before .before .attempt .ensures) (c .before .if1 .left) (c .if2 .left), c .before .before .before .before .before .before .loop2 .inv .1, c .before .before .before .before .before .before .loop2 .inv .2, c .before .before .before .before .before .before .loop2 .inv .3, omega (arith, c .before .before .before .before .before .loop2-test .taken), c .before .before .before .before .before .before .loop2 .inv .5)
+over-loop2-again t c = (turn _ _ _ _ _ _ _ _ _ _ _ _ _ _ (c .before .before .before .before .before .before .loop2 .inv .0) (among _ _ _ _ (c .before .before .before .before .before .before .loop2 .inv .3) (c .before .before .before .before .before .loop2-test .taken)) _ (c .before .before .attempt .ensures) (c .before .if1 .left) (c .if2 .left), c .before .before .before .before .before .before .loop2 .inv .1, c .before .before .before .before .before .before .loop2 .inv .2, c .before .before .before .before .before .before .loop2 .inv .3, omega (arith, c .before .before .before .before .before .loop2-test .taken))
 
 over-add-m : (t : ℕ) → over-lts.Need-add-m (
-  partners-reads.Asked,
-  partners-reads.Learnt,
-  completed-reads.Asked,
-  completed-reads.Learnt,
   beside-reads.Asked,
   beside-reads.Learnt,
   admits-reads.Asked,
@@ -483,10 +359,6 @@ over-add-m : (t : ℕ) → over-lts.Need-add-m (
 over-add-m t c = omega (arith, c .before .before .before .before .before .before .loop-test .taken)
 
 over-loop-less : (t : ℕ) → over-lts.Need-loop-less (
-  partners-reads.Asked,
-  partners-reads.Learnt,
-  completed-reads.Asked,
-  completed-reads.Learnt,
   beside-reads.Asked,
   beside-reads.Learnt,
   admits-reads.Asked,
@@ -497,10 +369,6 @@ over-loop-less : (t : ℕ) → over-lts.Need-loop-less (
 over-loop-less t c = omega (arith, c .before .before .before .before .before .before .loop-test .taken)
 
 over-loop-again : (t : ℕ) → over-lts.Need-loop-again (
-  partners-reads.Asked,
-  partners-reads.Learnt,
-  completed-reads.Asked,
-  completed-reads.Learnt,
   beside-reads.Asked,
   beside-reads.Learnt,
   admits-reads.Asked,
@@ -508,13 +376,9 @@ over-loop-again : (t : ℕ) → over-lts.Need-loop-again (
   attempt-below t,
   attempt.Post,
 ) (over-at t) over.Post over-Inv-loop2 over-μ-loop2 over-Inv-loop over-μ-loop
-over-loop-again t c = (leave _ _ _ _ _ _ _ _ _ _ _ _ _ (c .before .before .before .before .before .before .before .loop .inv .0) (c .before .before .before .before .before .before .loop-test .taken) _ _ _ _ (c .before .loop2 .inv .0) (past _ _ _ _ (c .before .loop2 .inv .3) (c .loop2-test .left)), c .before .before .before .before .before .before .before .loop .inv .1, c .before .before .before .before .before .before .before .loop .inv .2, c .before .before .before .before .before .before .before .loop .inv .3, c .before .before .before .before .before .before .before .loop .inv .4)
+over-loop-again t c = (leave _ _ _ _ _ _ _ _ _ _ _ _ _ (c .before .before .before .before .before .before .before .loop .inv .0) (c .before .before .before .before .before .before .loop-test .taken) _ _ _ _ (c .before .loop2 .inv .0) (past _ _ _ _ (c .before .loop2 .inv .3) (c .loop2-test .left)), c .before .before .before .before .before .before .before .loop .inv .1)
 
 over-returns-3 : (t : ℕ) → over-lts.Need-returns-3 (
-  partners-reads.Asked,
-  partners-reads.Learnt,
-  completed-reads.Asked,
-  completed-reads.Learnt,
   beside-reads.Asked,
   beside-reads.Learnt,
   admits-reads.Asked,
@@ -544,15 +408,11 @@ pub +attempt+over-spec : {M : Type 1} → statement M
     (attempt-add-over-2 t)
     (attempt-over-requires t)
     (attempt-returns-2 t)
-    (attempt-add-t39 t)
+    (attempt-add-t38 t)
     (attempt-returns-3 t)
-    (attempt-add-t40 t)
+    (attempt-add-t39 t)
     (attempt-returns-4 t))
     λ t. over-lts.spec (
-      partners-reads.Asked,
-      partners-reads.Learnt,
-      completed-reads.Asked,
-      completed-reads.Learnt,
       beside-reads.Asked,
       beside-reads.Learnt,
       admits-reads.Asked,
@@ -571,9 +431,6 @@ pub +attempt+over-spec : {M : Type 1} → statement M
     (over-mul-last-2 t)
     (over-element-copy-out-last-2 t)
     (over-sub-last t)
-    (over-partners-requires t)
-    (over-partners-requires-2 t)
-    (over-completed-requires t)
     (over-loop-holds t)
     (over-beside-requires t)
     (over-admits-requires t)
