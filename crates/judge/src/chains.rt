@@ -26,11 +26,11 @@ pub fn chain_delay(
     periods: &[u32; Sheet::PARTITIONS],
     budgets: &[u32; Sheet::PARTITIONS],
     modules: &[u32; Sheet::PARTITIONS],
-    delays: [[u16; Sheet::MODULES]; Sheet::MODULES],
+    delays: &[[u16; Sheet::MODULES]; Sheet::MODULES],
 ) -> u64
     requires { ⌜ length ≤ mostMembers ⌝ }
     requires { ⌜ AllPlaced (now modules) members length ⌝ }
-    ensures { λ r. ⌜ r ≡ chainDelay (now (periods .entry)) (now (budgets .entry)) delays (now (modules .entry)) members length ⌝ }
+    ensures { λ r. ⌜ r ≡ chainDelay (now (periods .entry)) (now (budgets .entry)) (now (delays .entry)) (now (modules .entry)) members length ⌝ }
 {
     let mut total: u64 = 0;
     let mut j = 0;
@@ -68,7 +68,7 @@ pub fn past_the_limit(
             periods,
             budgets,
             modules,
-            delays,
+            &delays,
         )
             > wide(chain.limit)
         {

@@ -165,7 +165,7 @@ fn kept_at<'a>(
 {
     let row = members[c];
     let length = index(chains[c][Link::LENGTH]);
-    chain_delay(row, length, periods, budgets, modules, *delays) <= wide(chains[c][Link::LIMIT])
+    chain_delay(row, length, periods, budgets, modules, delays) <= wide(chains[c][Link::LIMIT])
 }
 
 // C8 of the chains of a set.

@@ -10,12 +10,12 @@ use Rattle.judge.proofs.chains.chain_delay.Statement.{statement}
 use Rattle.judge.proofs.chains.chain_delay.Tie as tie
 
 abbrev Inv-loop : tie.InvT-loop
-Inv-loop length periods budgets modules members delays total₀ j₀ total j =
+Inv-loop length periods budgets modules delays members total₀ j₀ total j =
     (j ≤ 16) × (total ≤ j * 2 ^ 34) ×
     (total + hops periods budgets delays modules members (length - 1 - j) j ≡ chainDelay periods budgets delays modules members length)
 
 abbrev μ-loop : tie.MeasureT-loop
-μ-loop length periods budgets modules members delays total₀ j₀ total j = length - j
+μ-loop length periods budgets modules delays members total₀ j₀ total j = length - j
 
 -- the two members and their modules stand in the arrays
 first-in : (c : tie.After-member Inv-loop μ-loop) → c .member .result < 64

@@ -28,7 +28,9 @@ index-requires : tie.Need-index-requires
 index-requires c κs = search needs
 
 chain-delay-requires : tie.Need-chain-delay-requires
-chain-delay-requires c κs = let p = c .before .before .before .before .pre in (omega (arith, p .length, c .before .index .ensures .0), λ i l. p .placed i (omega (arith, c .before .index .ensures .0)))
+chain-delay-requires c κs =
+    let p = c .before .before .before .pre in
+    (omega (arith, p .length, c .index .ensures .0), λ i l. p .placed i (omega (arith, c .index .ensures .0)))
 
 mul-wide : tie.Need-mul-wide
 mul-wide c = search needs
@@ -43,7 +45,7 @@ wide-requires : tie.Need-wide-requires
 wide-requires c κs = search needs
 
 returns : tie.Need-returns
-returns c = kept-is _ _ _ _ _ _ _ (c .before .before .before .before .index .ensures .0) (c .before .before .chain-delay .ensures) (c .wide .ensures .0)
+returns c = kept-is _ _ _ _ _ _ _ (c .before .before .before .index .ensures .0) (c .before .before .chain-delay .ensures) (c .wide .ensures .0)
 
 pub kept-at-spec : {M : Type 1} → statement M
 kept-at-spec =
