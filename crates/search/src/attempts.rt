@@ -1,6 +1,6 @@
 // Going over one partition's placements, and trying one placement. They call each other: the next partition is taken up only from inside a try,
-// and partitions left fall, so calls nest at most 64 partitions deep. Nothing is copied in a try: the plan is two columns behind `&mut`. What a
-// start does not change (which partitions are on the module, and whether it admits one more) is worked out once for all starts on a module.
+// and partitions left fall, so calls nest at most 64 partitions deep. The plan is two columns behind `&mut`; nothing but the members of a chain
+// that is complete is copied in a try. Which partitions are on a module, and whether it admits one more, is worked out once for all starts on it.
 ghost use mathlib.Core.Path.{_≡_};
 ghost use Prim.Native.Nat.{_<_};
 ghost use Rattle.tries.specs.Code.{begun};

@@ -31,7 +31,7 @@ pub record Desk : Type 0 where
   pub divisors : List ℕ
   -- of each module: the cabinet, the memory and the most partitions
   pub rooms : List (List ℕ)
-  -- of each partition: the sets of those that it is excluded from by module, by cabinet, and of the chains that it completes
+  -- of each partition: the sets of those before it that it is excluded from by module, by cabinet, and of the chains that it completes
   pub apart : List ℕ
   pub far : List ℕ
   pub endings : List ℕ
@@ -109,10 +109,11 @@ partnersOf exclusions kind n count = filled mostPartitions count (λ j. partners
 abbrev pub completedBy : (chains : List (List ℕ)) → (j n : ℕ) → ℕ
 completedBy chains j n = setOf (λ c. eqb (cell chains c 2) j) n
 
+-- of each of the first `count` partitions
 unfoldable pub endingsOf : (chains : List (List ℕ)) → (n count : ℕ) → List ℕ
 endingsOf chains n count = filled mostPartitions count (λ j. completedBy chains j n) 0
 
--- the desk of a sheet
+-- the desk of a sheet; an exclusion of kind 0 is from a module, of kind 1 from a cabinet
 abbrev pub deskOf : Sheet → (delays : List (List ℕ)) → Desk
 deskOf s delays =
     desk (periodsOf s) (budgetsOf s) (memoriesOf s) (divisorsOf (periodsOf s) (s .head .partitions)) (roomsOf s)

@@ -1,5 +1,6 @@
-// The test of one try: whether the placement of partition j fits those of the partitions before it. Only what speaks of j is tested, and what its
-// start does not change is asked once for all starts on a module (`beside`, `admits`).
+// The test of one try: whether the placement of partition j fits those of the partitions before it. Only what speaks of j is tested. C4 to C7 are
+// asked once for all starts on a module (`beside`, `admits`), C2 of each try, and C8, which a start does not change either, of a try that C2 lets
+// through: its sum reads the module that the try writes.
 ghost use mathlib.Core.Path.{_≡_};
 ghost use Prim.Native.Nat.{_≤_, _<_, _^_};
 ghost use Rattle.sets.specs.Members.{eachIn};
@@ -11,7 +12,7 @@ ghost use Rattle.sound.specs.Asked.{Divisible, SetPlaced, ChainPlaced, C
 use crate::desk::Link;
 use crate::desk::Pair;
 use crate::desk::Room;
-use judge::chains::chain_delay;
+use judge::chains::delay_over;
 use judge::widths::index;
 use judge::widths::wide;
 use model::records::Chain;
@@ -165,7 +166,7 @@ fn kept_at<'a>(
 {
     let row = members[c];
     let length = index(chains[c][Link::LENGTH]);
-    chain_delay(row, length, periods, budgets, modules, delays) <= wide(chains[c][Link::LIMIT])
+    delay_over(row, length, periods, budgets, modules, delays) <= wide(chains[c][Link::LIMIT])
 }
 
 // C8 of the chains of a set.

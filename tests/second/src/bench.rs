@@ -118,7 +118,8 @@ fn many_modules() -> Sheet {
     sheet
 }
 
-/// The most partitions, exclusions and chains, with room everywhere: the tries fail at the chain that the last partition completes.
+/// The most partitions, exclusions and chains, with room everywhere: most tries fail at the chain that the last
+/// partition completes, the others at its exclusions.
 fn many_constraints() -> Sheet {
     let mut random = Random::new(78);
     let mut sheet = sheet(16, (0..64).map(|_| partition(100, 1)).collect());

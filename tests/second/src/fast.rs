@@ -1,6 +1,6 @@
 //! The calls once more, as one would write them in Rust for speed: what the product is measured against. Each does the
-//! same checks as the call of the library, on bytes that may hold anything; a search makes its tries one by one, and
-//! tests in each what the placed partitions say. The comparison holds this form to the reference too.
+//! same checks as the call of the library, on bytes that may hold anything; a search makes its tries one by one;
+//! memory, number and exclusions it tests once for all starts on a module, the rest in each try. The comparison holds this form to the reference too.
 
 use crate::reference::numbers::*;
 use crate::reference::{Answer, Built, Found, Position, Stepped};
@@ -289,8 +289,9 @@ pub fn sheet_number(bytes: &[u8]) -> u8 {
 struct Search<'a> {
     sheet: &'a Sheet,
     divisor: Vec<[u32; PARTITIONS]>,
-    /// Exclusions and chains whose last partition is the one placed.
-    exclusions: Vec<Vec<Exclusion>>,
+    /// By the last partition placed: those that it shares no module with, those that it shares no cabinet with, and chains.
+    apart: [u64; PARTITIONS],
+    far: Vec<Vec<u8>>,
     chains: Vec<Vec<Chain>>,
     plan: Plan,
     sets: [u64; MODULES],
@@ -310,11 +311,8 @@ impl Search<'_> {
         if self.sets[module].count_ones() + 1 > u32::from(sheet.most[module]) {
             return false;
         }
-        self.exclusions[j].iter().all(|e| {
-            let other = self.plan.module[e.first as usize] as usize;
-            let same = if e.cabinet { sheet.cabinet[other] == sheet.cabinet[module] } else { other == module };
-            !same
-        })
+        let cabinet = |i: &u8| sheet.cabinet[self.plan.module[*i as usize] as usize];
+        self.sets[module] & self.apart[j] == 0 && self.far[j].iter().all(|i| cabinet(i) != sheet.cabinet[module])
     }
 
     /// Whether partition j at a start on a module that admits it keeps the plan sound, which is sound below j.
@@ -379,9 +377,13 @@ pub fn search(sheet: &[u8], budget: u32, buffer: &mut [u8]) -> Found {
             *divisor = gcd(sheet.period[i], sheet.period[j]);
         }
     }
-    let mut exclusions = vec![vec![]; n];
+    let (mut apart, mut far) = ([0; PARTITIONS], vec![vec![]; n]);
     for e in &sheet.exclusion[..sheet.exclusions] {
-        exclusions[e.second as usize].push(*e);
+        if e.cabinet {
+            far[e.second as usize].push(e.first);
+        } else {
+            apart[e.second as usize] |= 1 << e.first;
+        }
     }
     let mut chains = vec![vec![]; n];
     for chain in &sheet.chain[..sheet.chains] {
@@ -390,7 +392,7 @@ pub fn search(sheet: &[u8], budget: u32, buffer: &mut [u8]) -> Found {
     }
     let plan = Plan { module: [0; PARTITIONS], start: [0; PARTITIONS] };
     let (sets, used) = ([0; MODULES], [0; MODULES]);
-    let mut search = Search { sheet: &sheet, divisor, exclusions, chains, plan, sets, used, made: 0, budget };
+    let mut search = Search { sheet: &sheet, divisor, apart, far, chains, plan, sets, used, made: 0, budget };
     let number = search.extend(0);
     if number == DONE {
         write_plan(&search.plan, n, buffer);

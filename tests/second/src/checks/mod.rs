@@ -1,9 +1,10 @@
-//! What is compared: worked cases, whole small worlds, damaged bytes, random worlds, buffers, positions, long runs.
+//! What is compared: worked cases, whole small worlds, damaged bytes, random worlds, buffers, positions, long runs; and the stack.
 
 mod buffers;
 mod damaged;
 mod random;
 mod small;
+mod stack;
 mod tables;
 mod worked;
 
@@ -19,6 +20,7 @@ fn check(name: &str, run: impl FnOnce(&mut Compare) -> Checked + 'static) -> Che
 pub fn all() -> Vec<Check> {
     let mut list = worked::checks();
     list.extend(small::checks());
+    list.extend(stack::checks());
     list.extend(damaged::checks());
     list.extend(buffers::checks());
     list.extend(tables::checks());
