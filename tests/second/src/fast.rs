@@ -1,6 +1,6 @@
 //! The calls once more, as one would write them in Rust for speed: what the product is measured against. Each does the
-//! same checks as the call of the library, on bytes that may hold anything; a search makes its tries one by one;
-//! memory, number and exclusions it tests once for all starts on a module, the rest in each try. The comparison holds this form to the reference too.
+//! same checks as the call of the library, on bytes that may hold anything; a search makes its tries one by one, and
+//! tests in each what the placed partitions say. The comparison holds this form to the reference too.
 
 use crate::reference::numbers::*;
 use crate::reference::{Answer, Built, Found, Position, Stepped};
@@ -289,9 +289,8 @@ pub fn sheet_number(bytes: &[u8]) -> u8 {
 struct Search<'a> {
     sheet: &'a Sheet,
     divisor: Vec<[u32; PARTITIONS]>,
-    /// By the last partition placed: those that it shares no module with, those that it shares no cabinet with, and chains.
-    apart: [u64; PARTITIONS],
-    far: Vec<Vec<u8>>,
+    /// Exclusions and chains whose last partition is the one placed.
+    exclusions: Vec<Vec<Exclusion>>,
     chains: Vec<Vec<Chain>>,
     plan: Plan,
     sets: [u64; MODULES],
@@ -301,21 +300,7 @@ struct Search<'a> {
 }
 
 impl Search<'_> {
-    /// Whether a module takes partition j, whatever its start: memory, number and exclusions.
-    #[inline]
-    fn admits(&self, j: usize, module: usize) -> bool {
-        let sheet = self.sheet;
-        if self.used[module] + sheet.need[j] > sheet.memory[module] {
-            return false;
-        }
-        if self.sets[module].count_ones() + 1 > u32::from(sheet.most[module]) {
-            return false;
-        }
-        let cabinet = |i: &u8| sheet.cabinet[self.plan.module[*i as usize] as usize];
-        self.sets[module] & self.apart[j] == 0 && self.far[j].iter().all(|i| cabinet(i) != sheet.cabinet[module])
-    }
-
-    /// Whether partition j at a start on a module that admits it keeps the plan sound, which is sound below j.
+    /// Whether partition j on a module at a start keeps the plan sound, which is sound below j.
     #[inline]
     fn fits(&self, j: usize, module: usize, start: u32) -> bool {
         let sheet = self.sheet;
@@ -327,6 +312,19 @@ impl Search<'_> {
                 return false;
             }
         }
+        if self.used[module] + sheet.need[j] > sheet.memory[module] {
+            return false;
+        }
+        if self.sets[module].count_ones() + 1 > u32::from(sheet.most[module]) {
+            return false;
+        }
+        for e in &self.exclusions[j] {
+            let other = self.plan.module[e.first as usize] as usize;
+            let same = if e.cabinet { sheet.cabinet[other] == sheet.cabinet[module] } else { other == module };
+            if same {
+                return false;
+            }
+        }
         self.chains[j].iter().all(|chain| chain_delay(sheet, &self.plan.module, chain) <= chain.limit)
     }
 
@@ -335,13 +333,12 @@ impl Search<'_> {
         let last = self.sheet.period[j] - self.sheet.budget[j];
         for module in 0..self.sheet.modules {
             self.plan.module[j] = module as u8;
-            let admitted = self.admits(j, module);
             for start in 0..=last {
                 if self.made == self.budget {
                     return STOPPED;
                 }
                 self.made += 1;
-                if !admitted || !self.fits(j, module, start) {
+                if !self.fits(j, module, start) {
                     continue;
                 }
                 self.plan.start[j] = start;
@@ -377,13 +374,9 @@ pub fn search(sheet: &[u8], budget: u32, buffer: &mut [u8]) -> Found {
             *divisor = gcd(sheet.period[i], sheet.period[j]);
         }
     }
-    let (mut apart, mut far) = ([0; PARTITIONS], vec![vec![]; n]);
+    let mut exclusions = vec![vec![]; n];
     for e in &sheet.exclusion[..sheet.exclusions] {
-        if e.cabinet {
-            far[e.second as usize].push(e.first);
-        } else {
-            apart[e.second as usize] |= 1 << e.first;
-        }
+        exclusions[e.second as usize].push(*e);
     }
     let mut chains = vec![vec![]; n];
     for chain in &sheet.chain[..sheet.chains] {
@@ -392,7 +385,7 @@ pub fn search(sheet: &[u8], budget: u32, buffer: &mut [u8]) -> Found {
     }
     let plan = Plan { module: [0; PARTITIONS], start: [0; PARTITIONS] };
     let (sets, used) = ([0; MODULES], [0; MODULES]);
-    let mut search = Search { sheet: &sheet, divisor, apart, far, chains, plan, sets, used, made: 0, budget };
+    let mut search = Search { sheet: &sheet, divisor, exclusions, chains, plan, sets, used, made: 0, budget };
     let number = search.extend(0);
     if number == DONE {
         write_plan(&search.plan, n, buffer);
