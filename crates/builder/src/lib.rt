@@ -1,5 +1,6 @@
 // The builder: the frame table of one module of an accepted plan, written into a lent buffer. It knows decoded values and nothing of bits:
 // slots are handed to the writer of `table`. It goes from slot to slot and never tick by tick.
+#![tactic(auto)]
 ghost use Rattle.std.specs.Prelude.{◌≡◌};
 ghost use Rattle.builder.specs.Built.{built_of, buffer_of};
 
@@ -15,7 +16,7 @@ use model::records::{Plan, Sheet};
 
 // The number, and how many bytes the table has where that is 0.
 #[repr(C)]
-#[derive(Drop)]
+#[derive(Clone, Copy)]
 pub struct Built {
     pub number: u8,
     pub length: usize,

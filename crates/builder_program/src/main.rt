@@ -1,6 +1,7 @@
 // The builder program: reads sheet.bin and plan.bin in the working directory and prints the judge's three numbers; when they are 0 0 0,
 // for every module in order a line `module number frame slots` and then its slots, `start length partition` a line. With an argument,
 // each built table is also written to that prefix followed by the module's number in two digits and `.bin`.
+#![tactic(auto)]
 use table::Table;
 
 // The largest table.

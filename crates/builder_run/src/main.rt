@@ -1,5 +1,6 @@
 // Runs of the builder and the dispatcher, which are not worked out as theorems: periods 2 and 4,096 on one module build to 22; and a table of
 // 1,024 slots, whose frame is near the largest, is built, stepped over several frames and compared with the covering partition at each tick.
+#![tactic(auto)]
 ghost use Rattle.std.specs.Prelude.{◌≡◌, ◌≤◌};
 
 use libc::STDOUT_FILENO;

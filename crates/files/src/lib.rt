@@ -1,4 +1,5 @@
 // What the programs share: files read whole, and numbers written a line at a time.
+#![tactic(auto)]
 ghost use Rattle.io.specs.Counts.{IsPrefixLen};
 
 // The file at `path`, at the front of `buffer`: how many bytes it gave. A missing file reads as empty, and of a longer one than the

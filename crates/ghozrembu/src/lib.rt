@@ -1,5 +1,6 @@
 // The calls on bytes: a sheet's and a plan's bytes to verdicts, plans and tables. Every byte string of every length gets its number
 // (document 01, "Numbers returned"). `c` exports them to C, as include/ghozrembu.h says.
+#![tactic(auto)]
 mod building;
 mod c;
 mod judging;

@@ -5,7 +5,7 @@ ghost use Rattle.ghozrembu.specs.Looks.{counts_of, table_at, slot_at, budget_of}
 use table::records::{Slot, Table};
 
 // How many modules and partitions a sheet has.
-#[derive(Drop)]
+#[derive(Clone, Copy)]
 pub struct Counts {
     pub modules: usize,
     pub partitions: usize,

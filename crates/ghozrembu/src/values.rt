@@ -4,7 +4,7 @@ ghost use Rattle.ghozrembu.specs.Judged.{ReadBoth};
 use model::records::{Plan, Sheet};
 
 // The number of the two, and their values where that is 0.
-#[derive(Drop)]
+#[derive(Clone, Copy)]
 pub struct Values {
     pub number: u8,
     pub sheet: Sheet,

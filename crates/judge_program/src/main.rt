@@ -1,4 +1,5 @@
 // The judge program: reads sheet.bin and plan.bin in the working directory and prints one line, the number and two places.
+#![tactic(auto)]
 fn main() {
     let mut sheet = io::buffer();
     let m = files::load(b"sheet.bin", &mut sheet);

@@ -13,7 +13,7 @@ use sound::fits::{admits, beside, fits};
 
 // Where a search ends: with a plan, with the budget spent, or with neither; and the tries made. `tries` stands between the two answers for speed
 // (docs/DECISIONS.md, "The search").
-#[derive(Drop)]
+#[derive(Clone, Copy)]
 pub struct Outcome {
     pub found: bool,
     pub tries: u32,

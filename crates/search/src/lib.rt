@@ -1,5 +1,6 @@
 // The search: the first accepted plan within a budget of tries, or that there is none, or that the budget is spent (document 01, "The search
 // and its tries"). It knows decoded values and nothing of bits.
+#![tactic(auto)]
 ghost use Rattle.std.specs.Prelude.{◌≡◌, length};
 ghost use Rattle.search.specs.Answer.{found_of, buffer_after};
 
@@ -13,7 +14,7 @@ use reader::plan::{length_of, write_plan};
 
 // What the search answers: its number (0 found, 26 no plan, 27 stopped, or that of a refusal) and the tries made.
 #[repr(C)]
-#[derive(Drop)]
+#[derive(Clone, Copy)]
 pub struct Found {
     pub number: u8,
     pub tries: u32,

@@ -12,7 +12,7 @@ use sound::desk::{
 };
 
 // A partial plan: the module and the start of each placed partition.
-#[derive(Drop)]
+#[derive(Clone, Copy)]
 pub struct Partial {
     pub modules: [u32; Sheet::PARTITIONS],
     pub starts: [u32; Sheet::PARTITIONS],

@@ -1,5 +1,6 @@
 // The search program: reads sheet.bin and budget.bin in the working directory and prints the number and the tries; when found, a line
 // `module start` for each partition in order. With an argument the found plan's bytes are also written to that file.
+#![tactic(auto)]
 
 use model::records::{Plan, Sheet};
 

@@ -1,0 +1,6 @@
+-- The measure of `euclid::gcd`: the remainder falls at each call.
+-- Assumes nothing.
+use Rattle.euclid.proofs.+gcd.Given as goal
+
+abbrev pub decreases-gcd : goal.decreases-gcd
+decreases-gcd l = l.b

@@ -1,0 +1,20 @@
+-- `model::decoded::exclusions_number` meets its contract. The loop's invariant: what is left to meet is what the whole meets. Assumes nothing.
+use Prim.Native.Nat.{ℕ, ◌-◌}
+use native.Mathlib.Omega.{arith}
+use lib.ListN.{get_or}
+use Rattle.numbers.proofs.Passed.{Passed}
+use Rattle.numbers.specs.First.{first_start, first_hit, first_pass, first_end}
+use Rattle.model.specs.Decoded.{decoded_exclusion, decoded_exclusions}
+use Rattle.model.specs.None.{no_exclusion}
+use Rattle.model.proofs.decoded.exclusions_number.Goals as goal
+
+pub returns-then-x-ne0 : goal.returns-then-x-ne0
+unfolding decoded_exclusions
+returns-then-x-ne0 c = let l = c.loop-i in first_hit _ _ l.i (omega arith) c.number-x.ensures c.if-x-ne0.true l.invariant.1
+
+pub loop-i-preserved : goal.loop-i-preserved
+loop-i-preserved c = let l = c.loop-i in (omega arith, first_pass _ _ l.i (omega arith) c.number-x.ensures c.if-x-ne0.false l.invariant.1)
+
+pub returns : goal.returns
+unfolding decoded_exclusions
+returns c = let l = c.loop-i in first_end _ _ l.i l.invariant.0 c.loop-i-test.false l.invariant.1

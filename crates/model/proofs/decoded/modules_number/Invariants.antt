@@ -1,0 +1,14 @@
+-- `model::decoded::modules_number` meets its contract. The loop's invariant: what is left to meet is what the whole meets. Assumes nothing.
+use Prim.Native.Nat.{ℕ, ◌-◌}
+use lib.ListN.{get_or}
+use Rattle.numbers.proofs.Passed.{Passed}
+use Rattle.model.specs.Decoded.{module_large}
+use Rattle.model.specs.None.{no_module}
+use Rattle.model.proofs.decoded.modules_number.Given as goal
+
+-- `model::decoded::modules_number` meets its contract. The loop's invariant: what is left to meet is what the whole meets. Assumes nothing.
+abbrev pub invariant-loop-i : goal.invariant-loop-i
+invariant-loop-i l = Passed (λ (k : ℕ). module_large (get_or l.modules k no_module)) l.n l.i
+
+abbrev pub decreases-loop-i : goal.decreases-loop-i
+decreases-loop-i l = l.n - l.i
