@@ -1,18 +1,15 @@
 -- `builder::frame::frame_of` meets its contract. The invariant: f and the periods left make the frame of all. The measure: the set left, as a number.
 -- Assumes nothing.
-use mathlib.Core.Path.{◌≡◌, refl, ap, sym, ◌∙◌}
-use mathlib.Core.List.{List}
-use Prim.Native.Nat.{ℕ, ◌≤◌, ◌<◌, ◌^◌}
+use mathlib.Core.Path.{◌≡◌, ap, sym, ◌∙◌}
+use Prim.Native.Nat.{ℕ, ◌≤◌, ◌<◌}
 use native.Mathlib.Omega.{arith}
-use borrow.Author.Rules.{rules}
 use Rattle.sets.specs.Members.{lowest_of, without_lowest}
 use Rattle.sets.proofs.Laws.{lowest_below, walk_falls}
 use Rattle.builder.specs.Parts.{parts_of}
-use Rattle.builder.specs.Asked.{Timed}
 use Rattle.euclid.specs.Euclid.{lcm_of}
 use Rattle.euclid.proofs.Laws.{lcm_pos}
 use Rattle.table.specs.Layout.{most_frame}
-use Rattle.frames.specs.Frame.{frame_from, frame}
+use Rattle.frames.specs.Frame.{frame_from}
 use Rattle.judge.specs.Constraints.{at}
 use Rattle.builder.proofs.Turns.{timed_positive, timed_here, timed_on, frame_turn, frame_end, found_early, found_whole}
 use Rattle.builder.proofs.frame.frame_of.Goals as goal

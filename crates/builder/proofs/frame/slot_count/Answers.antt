@@ -2,16 +2,13 @@
 -- for a frame. The measure: the set left, as a number.
 -- Assumes nothing.
 use mathlib.Core.Path.{◌≡◌, ap, ◌∙◌}
-use mathlib.Core.List.{List}
-use Prim.Native.Nat.{ℕ, ◌+◌, ◌*◌, ◌/◌, ◌≤◌, ◌<◌, ◌^◌}
+use Prim.Native.Nat.{ℕ, ◌/◌, ◌≤◌, ◌<◌}
 use native.Mathlib.Omega.{arith}
 use borrow.Author.Rules.{rules}
-use Rattle.sets.specs.Members.{lowest_of, size_of}
+use Rattle.sets.specs.Members.{lowest_of}
 use Rattle.sets.proofs.Laws.{lowest_below, walk_falls, size_walk, size_at_most}
-use Rattle.builder.specs.Parts.{parts_of}
-use Rattle.builder.specs.Asked.{Timed}
 use native.Mathlib.Nat.{zero-add, div-le_self}
-use Rattle.frames.specs.Frame.{Part, total}
+use Rattle.frames.specs.Frame.{Part}
 use Rattle.judge.specs.Constraints.{at}
 use Rattle.builder.proofs.Turns.{timed_here, timed_on, count_turn, count_end}
 use Rattle.builder.proofs.frame.slot_count.Goals as goal

@@ -11,7 +11,6 @@ use Rattle.frames.specs.Frame.{slots_of, frame}
 use Rattle.builder.specs.Parts.{parts_of}
 use Rattle.builder.specs.Built.{size_of}
 use Rattle.builder.proofs.Returned.{returned_refused, left_refused, returned_built, left_built, room_frame, room_slots, room_buffer, room_fine, count_is}
-use borrow.Author.Rules.{rules}
 use Rattle.builder.proofs.room.build_set.Goals as goal
 
 pub returns-then-frame : goal.returns-then-frame

@@ -1,18 +1,16 @@
 -- `builder::slots::soonest` meets its contract. The invariant: the best so far and the partitions left give the soonest of all. The measure: the set
 -- left, as a number.
 -- Assumes nothing.
-use mathlib.Core.Path.{◌≡◌, refl, ap, sym, ◌∙◌}
+use mathlib.Core.Path.{ap, sym, ◌∙◌}
 use Prim.Native.Nat.{ℕ, ◌+◌, ◌≤◌, ◌<◌, ◌^◌}
 use native.Mathlib.Omega.{arith}
-use borrow.Author.Rules.{rules}
 use Rattle.sets.specs.Members.{without_lowest}
 use Rattle.sets.proofs.Laws.{lowest_below, walk_falls}
 use Rattle.builder.specs.Parts.{parts_of}
-use Rattle.builder.specs.Asked.{Timed}
 use Rattle.overlap.specs.Overlap.{gap_of}
 use Rattle.overlap.proofs.Residues.{gap_below}
 use Rattle.table.specs.declared.records.Slot.{Slot}
-use Rattle.frames.specs.Next.{soonest, beyond}
+use Rattle.frames.specs.Next.{soonest}
 use Rattle.judge.specs.Constraints.{at}
 use Rattle.builder.specs.Parts.{nearer}
 use Rattle.builder.proofs.Turns.{timed_here, timed_on, soonest_turn, soonest_end}

@@ -1,15 +1,13 @@
 -- `builder::slots::write_slots` meets its contract. The invariant: the first i slots are written, and those from tick n on are left. The measure: the
 -- slots left.
 -- Assumes nothing.
-use mathlib.Core.Path.{◌≡◌, ◌∙◌}
-use Prim.Native.Nat.{◌-◌, ◌≤◌, ◌<◌}
+use mathlib.Core.Path.{◌∙◌}
+use Prim.Native.Nat.{◌<◌}
 use native.Mathlib.Omega.{arith}
-use borrow.Author.Rules.{rules}
-use lib.ListN.{length, drop}
 use Rattle.table.proofs.Bytes.{no_slot_yet}
 use Rattle.frames.specs.Frame.{slots_of}
 use Rattle.builder.specs.Parts.{parts_of}
-use Rattle.builder.proofs.Written.{Turn, left_from, all_left, turned, written, written_length, written_more, written_all}
+use Rattle.builder.proofs.Written.{Turn, all_left, turned, written_more}
 use Rattle.builder.proofs.slots.write_slots.Goals as goal
 
 pub loop-i-init : goal.loop-i-init
