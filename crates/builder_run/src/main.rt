@@ -1,10 +1,11 @@
 // Runs of the builder and the dispatcher, which are not worked out as theorems: periods 2 and 4,096 on one module build to 22; and a table of
 // 1,024 slots, whose frame is near the largest, is built, stepped over several frames and compared with the covering partition at each tick.
 #![tactic(auto)]
+
 ghost use Rattle.std.specs.Prelude.{◌≡◌, ◌≤◌};
 
-use libc::STDOUT_FILENO;
 use model::records::{Head, Module, Partition, Plan, Sheet};
+use std::io;
 use table::records::{Moved, Position};
 
 // How many ticks the long run has: three frames and some.
@@ -106,19 +107,17 @@ fn compared(buffer: &[u8], length: usize) -> u64 {
 }
 
 // Writes a number and the byte after it.
-fn say(n: u64, after: u8) {
-    let _ = io::print_decimal(STDOUT_FILENO, n);
-    let end = [after; 1];
-    let _ = io::write_all(STDOUT_FILENO, &end);
+fn say(rt: &impl Print, n: u64, after: u8) -> io::Result<()> {
+    print!(rt; "{n}{}", char::from(after))
 }
 
-fn main() {
+fn main(rt: HostRuntime) -> io::Result<()> {
     let delays = [[0u16; Sheet::MODULES]; Sheet::MODULES];
     let mut buffer = [0u8; 8192];
     let many = sheet(partition(2, 1), partition(4096, 1), partition(0, 0), 2);
     let full = builder::build(many, delays, plan(1, 0), 0, &mut buffer);
-    say(full.number as u64, b' ');
-    say(full.length as u64, b'\n');
+    say(&rt, full.number as u64, b' ')?;
+    say(&rt, full.length as u64, b'\n')?;
     let long = sheet(
         partition(65280, 30),
         partition(65280, 30),
@@ -126,7 +125,7 @@ fn main() {
         3,
     );
     let built = builder::build(long, delays, plan(30, 60), 0, &mut buffer);
-    say(built.number as u64, b' ');
-    say(built.length as u64, b'\n');
-    say(compared(&buffer, built.length), b'\n');
+    say(&rt, built.number as u64, b' ')?;
+    say(&rt, built.length as u64, b'\n')?;
+    say(&rt, compared(&buffer, built.length), b'\n')
 }

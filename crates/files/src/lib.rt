@@ -1,54 +1,78 @@
 // What the programs share: files read whole, and numbers written a line at a time.
 #![tactic(auto)]
+
 ghost use Rattle.io.specs.Counts.{IsPrefixLen};
+
+use std::io::{Read, Write};
+use std::rt::{Env, Files};
+use std::{fs, io, str};
+
+// How many bytes a program reads of a file, or of its argument.
+pub const MOST_BYTES: usize = 4_096;
 
 // The file at `path`, at the front of `buffer`: how many bytes it gave. A missing file reads as empty, and of a longer one than the
 // buffer the front is read: a buffer longer than the longest sheet and plan keeps the answer.
-pub fn load(path: &[u8], buffer: &mut [u8]) -> usize
+pub fn load(rt: &impl Files, path: &[u8], buffer: &mut [u8]) -> usize
     ensures { IsPrefixLen result buffer.new }
 {
-    let file = os::open_read(path);
-    if file < 0 {
+    let Ok(name) = str::from_utf8(path) else {
         return 0;
+    };
+    match fs::open(rt, name) {
+        Ok(mut file) => read_full(&mut file, buffer),
+        Err(_) => 0,
     }
-    let n = io::read_full(file, buffer);
-    libc::close(file);
-    n
+}
+
+// Reads until the buffer is full, the file ends or a read fails: how many bytes it put at the front of the buffer.
+fn read_full(file: &mut impl Read, buffer: &mut [u8]) -> usize
+    ensures { IsPrefixLen result buffer.new }
+{
+    let mut done = 0;
+    while done < buffer.len() {
+        let n = file.read(&mut buffer[done..]).unwrap_or(0);
+        if n == 0 {
+            break;
+        }
+        done += n;
+    }
+    done
 }
 
 // Two numbers on a line.
-pub fn print_two(a: u64, b: u64) {
-    io::print_decimal(libc::STDOUT_FILENO, a);
-    io::write_all(libc::STDOUT_FILENO, b" ");
-    io::print_decimal(libc::STDOUT_FILENO, b);
-    io::write_all(libc::STDOUT_FILENO, b"\n");
+pub fn print_two(rt: &impl Print, a: u64, b: u64) -> io::Result<()> {
+    println!(rt; "{a} {b}")
 }
 
 // Three numbers on a line.
-pub fn print_three(a: u64, b: u64, c: u64) {
-    io::print_decimal(libc::STDOUT_FILENO, a);
-    io::write_all(libc::STDOUT_FILENO, b" ");
-    print_two(b, c);
+pub fn print_three(rt: &impl Print, a: u64, b: u64, c: u64) -> io::Result<()> {
+    println!(rt; "{a} {b} {c}")
 }
 
 // Four numbers on a line.
-pub fn print_four(a: u64, b: u64, c: u64, d: u64) {
-    io::print_decimal(libc::STDOUT_FILENO, a);
-    io::write_all(libc::STDOUT_FILENO, b" ");
-    print_three(b, c, d);
+pub fn print_four(rt: &impl Print, a: u64, b: u64, c: u64, d: u64) -> io::Result<()> {
+    println!(rt; "{a} {b} {c} {d}")
 }
 
 // Writes the bytes to the file at `path`, made or emptied first; where that fails, a line on standard error says why.
-pub fn save(path: &[u8], bytes: &[u8]) {
-    let file = os::open_overwrite(path);
-    if file < 0 {
-        os::fail(path);
-        return;
-    }
-    if !io::write_all(file, bytes) {
-        os::fail(path);
-    }
-    libc::close(file);
+pub fn save(rt: &(impl Files + Eprint), path: &[u8], bytes: &[u8]) {
+    let said = match str::from_utf8(path) {
+        Ok(name) => match fs::write(rt, name, bytes) {
+            Ok(()) => Ok(()),
+            Err(error) => eprintln!(rt; "{name}: {error}"),
+        },
+        Err(error) => eprintln!(rt; "{}: {error}", path.escape_ascii()),
+    };
+    // Where standard error takes no line there is nowhere left to say so.
+    drop(said);
+}
+
+// The program's first argument, at the front of `path`: its length, or 0 where there is none or it does not fit.
+pub fn argument(rt: &impl Env, path: &mut [u8]) -> usize
+    ensures { IsPrefixLen result path.new }
+{
+    let n = rt.arg(1, path).unwrap_or(0);
+    at_most(n, path)
 }
 
 // n, or the buffer's length where n is larger: a count of bytes that the buffer has.

@@ -1,10 +1,13 @@
 // The judge program: reads sheet.bin and plan.bin in the working directory and prints one line, the number and two places.
 #![tactic(auto)]
-fn main() {
-    let mut sheet = io::buffer();
-    let m = files::load(b"sheet.bin", &mut sheet);
-    let mut plan = io::buffer();
-    let n = files::load(b"plan.bin", &mut plan);
+
+use std::io;
+
+fn main(rt: HostRuntime) -> io::Result<()> {
+    let mut sheet = [0u8; files::MOST_BYTES];
+    let m = files::load(&rt, b"sheet.bin", &mut sheet);
+    let mut plan = [0u8; files::MOST_BYTES];
+    let n = files::load(&rt, b"plan.bin", &mut plan);
     let a = ghozrembu::judge(&sheet[..m], &plan[..n]);
-    files::print_three(a.number as u64, a.first as u64, a.second as u64);
+    files::print_three(&rt, a.number as u64, a.first as u64, a.second as u64)
 }

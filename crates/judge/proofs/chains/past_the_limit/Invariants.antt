@@ -13,7 +13,7 @@ use Rattle.judge.proofs.chains.past_the_limit.Given as goal
 abbrev pub invariant-loop-c : goal.invariant-loop-c
 invariant-loop-c l =
     (l.c ≤ l.count) ×
-    (fails_from (λ (l.c : ℕ). c8 l.periods l.budgets l.delays l.modules (get_or l.chains l.c empty_chain)) (l.count - l.c) l.c ≡ first_fail (λ (l.c : ℕ). c8 l.periods l.budgets l.delays l.modules (get_or l.chains l.c empty_chain)) l.count)
+    (fails_from (λ (c : ℕ). c8 l.periods l.budgets l.delays l.modules (get_or l.chains c empty_chain)) (l.count - l.c) l.c ≡ first_fail (λ (c : ℕ). c8 l.periods l.budgets l.delays l.modules (get_or l.chains c empty_chain)) l.count)
 
 abbrev pub decreases-loop-c : goal.decreases-loop-c
 decreases-loop-c l = l.count - l.c

@@ -1,10 +1,6 @@
 -- `judge::exclusions::apart_by_cabinet` meets its contract: C7 is asked of kind 1 only, and the modules looked up are among the sixteen.
 -- Assumes nothing.
-use mathlib.Core.Path.{ap, ◌∙◌}
-use Prim.Native.Nat.{ℕ}
-use native.Mathlib.Omega.{arith}
-use borrow.Author.Rules.{rules}
-use Rattle.judge.specs.Constraints.{at, c7}
+use Rattle.judge.specs.Constraints.{c7}
 use Rattle.judge.proofs.Exact.{asked, not_asked}
 use Rattle.judge.proofs.exclusions.apart_by_cabinet.Goals as goal
 

@@ -1,5 +1,4 @@
 -- `judge::exclusions::apart_by_module` meets its contract: C6 is asked of kind 0 only. Assumes nothing.
-use borrow.Author.Rules.{rules}
 use Rattle.judge.specs.Constraints.{c6}
 use Rattle.judge.proofs.Exact.{asked, not_asked}
 use Rattle.judge.proofs.exclusions.apart_by_module.Goals as goal

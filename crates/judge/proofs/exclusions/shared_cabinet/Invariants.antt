@@ -13,7 +13,7 @@ use Rattle.judge.proofs.exclusions.shared_cabinet.Given as goal
 abbrev pub invariant-loop-x : goal.invariant-loop-x
 invariant-loop-x l =
     (l.x ≤ l.count) ×
-    (fails_from (λ (l.x : ℕ). c7 l.rooms l.modules (get_or l.exclusions l.x no_exclusion)) (l.count - l.x) l.x ≡ first_fail (λ (l.x : ℕ). c7 l.rooms l.modules (get_or l.exclusions l.x no_exclusion)) l.count)
+    (fails_from (λ (x : ℕ). c7 l.rooms l.modules (get_or l.exclusions x no_exclusion)) (l.count - l.x) l.x ≡ first_fail (λ (x : ℕ). c7 l.rooms l.modules (get_or l.exclusions x no_exclusion)) l.count)
 
 abbrev pub decreases-loop-x : goal.decreases-loop-x
 decreases-loop-x l = l.count - l.x

@@ -1,12 +1,10 @@
 -- `judge::pairs::broken_pair` meets its contract: a loop over the first places of pairs. The invariant: the first pair from here on is the first
 -- of all. The measure: the places left. Assumes nothing.
-use mathlib.Core.Path.{◌≡◌, ◌∙◌}
-use Prim.Native.Nat.{◌-◌, ◌≤◌}
+use mathlib.Core.Path.{◌∙◌}
+use Prim.Native.Nat.{◌≤◌}
 use native.Mathlib.Omega.{arith}
-use borrow.Author.Rules.{rules}
 use Rattle.judge.specs.Constraints.{c2}
-use Rattle.judge.proofs.Places.{fails_start}
-use Rattle.judge.proofs.Stages.{pair, pair_from, partner_at_most, pair_pass, pair_hit, pair_none}
+use Rattle.judge.proofs.Stages.{partner_at_most, pair_pass, pair_hit, pair_none}
 use Rattle.judge.proofs.pairs.broken_pair.Goals as goal
 
 pub overflow_cast-result-then-k-n : goal.overflow_cast-result-then-k-n

@@ -2,7 +2,6 @@
 -- at least 1 and no larger than a period. Assumes nothing.
 use mathlib.Core.Path.{◌∙◌}
 use native.Mathlib.Omega.{arith}
-use borrow.Author.Rules.{rules}
 use Rattle.euclid.proofs.Laws.{gcd_at_least_one, gcd_at_most_left}
 use Rattle.judge.specs.Constraints.{c2}
 use Rattle.judge.proofs.Exact.{asked, not_asked}

@@ -1,5 +1,4 @@
 -- `judge::placements::broken_placement` meets its contract: C1, then C2, then C3. Assumes nothing.
-use borrow.Author.Rules.{rules}
 use Rattle.judge.proofs.Stages.{at_place, or_stop, or_go}
 use Rattle.judge.proofs.placements.broken_placement.Goals as goal
 

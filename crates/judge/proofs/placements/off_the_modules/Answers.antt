@@ -1,12 +1,7 @@
 -- `judge::placements::off_the_modules` meets its contract: a loop over the partitions for C1. The invariant: the first failing place from here on
 -- is the first of all. The measure: the places left. Assumes nothing.
-use mathlib.Core.Path.{◌≡◌}
-use Prim.Native.Nat.{◌-◌, ◌≤◌}
 use native.Mathlib.Omega.{arith}
-use borrow.Author.Rules.{rules}
-use Rattle.judge.specs.Places.{fails_from, first_fail}
-use Rattle.judge.specs.Constraints.{c1}
-use Rattle.judge.proofs.Places.{fails_start, fails_hit, fails_pass, fails_end}
+use Rattle.judge.proofs.Places.{fails_hit, fails_pass, fails_end}
 use Rattle.judge.proofs.Exact.{c1_passes, c1_fails}
 use Rattle.judge.proofs.placements.off_the_modules.Goals as goal
 

@@ -1,12 +1,7 @@
 -- `judge::placements::past_the_period` meets its contract: a loop over the partitions for C3. The invariant: the first failing place from here on
 -- is the first of all. The measure: the places left. Assumes nothing.
-use mathlib.Core.Path.{◌≡◌}
-use Prim.Native.Nat.{◌-◌, ◌≤◌}
 use native.Mathlib.Omega.{arith}
-use borrow.Author.Rules.{rules}
-use Rattle.judge.specs.Places.{fails_from, first_fail}
-use Rattle.judge.specs.Constraints.{c3}
-use Rattle.judge.proofs.Places.{fails_start, fails_hit, fails_pass, fails_end}
+use Rattle.judge.proofs.Places.{fails_hit, fails_pass, fails_end}
 use Rattle.judge.proofs.Exact.{c3_passes, c3_fails}
 use Rattle.judge.proofs.placements.past_the_period.Goals as goal
 

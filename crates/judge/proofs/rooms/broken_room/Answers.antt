@@ -1,6 +1,5 @@
 -- `judge::rooms::broken_room` meets its contract: C4, then C5, by the modules' sets. Assumes nothing.
 use native.Mathlib.Omega.{arith}
-use borrow.Author.Rules.{rules}
 use Rattle.judge.proofs.Hosting.{memory_first, most_first}
 use Rattle.judge.proofs.Stages.{at_place, or_stop, or_go}
 use Rattle.judge.proofs.rooms.broken_room.Goals as goal

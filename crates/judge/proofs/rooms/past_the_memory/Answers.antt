@@ -1,12 +1,7 @@
 -- `judge::rooms::past_the_memory` meets its contract: a loop over the modules for C4. The invariant: the first failing place from here on
 -- is the first of all. The measure: the places left. Assumes nothing.
-use mathlib.Core.Path.{◌≡◌}
-use Prim.Native.Nat.{◌-◌, ◌≤◌}
 use native.Mathlib.Omega.{arith}
-use borrow.Author.Rules.{rules}
-use Rattle.judge.specs.Places.{fails_from, first_fail}
-use Rattle.judge.specs.Hosted.{memory_kept}
-use Rattle.judge.proofs.Places.{fails_start, fails_hit, fails_pass, fails_end}
+use Rattle.judge.proofs.Places.{fails_hit, fails_pass, fails_end}
 use Rattle.judge.proofs.Hosting.{memory_passes, memory_fails}
 use Rattle.judge.proofs.rooms.past_the_memory.Goals as goal
 
@@ -16,9 +11,9 @@ returns-then-sum-wide c = let l = c.loop-k in
 
 pub loop-k-preserved : goal.loop-k-preserved
 loop-k-preserved c = let l = c.loop-k in (
-      omega arith,
-      fails_pass _ _ l.k (omega arith) (memory_passes _ _ _ _ (omega (arith, c.sum.ensures, c.wide.ensures))) l.invariant.1,
-    )
+  omega arith,
+  fails_pass _ _ l.k (omega arith) (memory_passes _ _ _ _ (omega (arith, c.sum.ensures, c.wide.ensures))) l.invariant.1,
+)
 
 pub returns : goal.returns
 returns c = fails_end _ _ c.loop-k.k (omega arith) c.loop-k.invariant.1
