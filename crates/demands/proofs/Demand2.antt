@@ -4,17 +4,15 @@
 use mathlib.Core.Path.{◌≡◌, ap, sym, ◌∙◌, subst}
 use mathlib.Core.List.{List}
 use Prim.Native.Nat.{ℕ}
-use Rattle.model.specs.Columns.{periods_of, budgets_of}
-use Rattle.layout.specs.Values.{sheet_of, delays_of}
 use Rattle.reader.specs.Number.{sheet_number}
 use Rattle.reader.specs.Plan.{plan_number}
 use Rattle.reader.proofs.Passing.{sheet_fair}
-use Rattle.judge.specs.Verdict.{refused, or_next}
+use Rattle.judge.specs.Verdict.{refused}
 use Rattle.judge.specs.declared.Answer.{Answer}
 use Rattle.judge.proofs.Parts.{runs}
 use Rattle.judge.proofs.Theorems.{accepted_exactly, names_the_first}
 use Rattle.judge.proofs.Stages.{or_pass}
-use Rattle.numbers.specs.First.{met, met_here, met_there}
+use Rattle.numbers.specs.First.{met_here, met_there}
 use Rattle.ghozrembu.specs.Judged.{partitions_in, verdict_of, judged_bytes}
 use Rattle.demands.specs.Promises.{plan_in, Readable, Holds, NamesFirst}
 use Rattle.demands.proofs.Demand1.{judge_in_order}

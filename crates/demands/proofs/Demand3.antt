@@ -3,17 +3,16 @@
 -- Assumes nothing.
 use mathlib.Core.Path.{◌≡◌, refl, ap, sym, ◌∙◌, subst}
 use mathlib.Core.List.{List}
-use Prim.Native.Nat.{ℕ, zero, suc}
+use Prim.Native.Nat.{ℕ}
 use lib.ListN.{length, take}
 use Rattle.numbers.specs.First.{met_here, met_none}
 use Rattle.layout.specs.Values.{sheet_of, delays_of}
-use Rattle.frames.specs.Frame.{Part}
-use Rattle.builder.specs.Built.{returned, built_number, built_of, buffer_of}
+use Rattle.builder.specs.Built.{built_number, built_of}
 use Rattle.builder.specs.Demand.{Does}
 use Rattle.builder.specs.declared.Built.{Built}
 use Rattle.builder.proofs.Theorems.{built_does}
 use Rattle.ghozrembu.specs.Judged.{judged_bytes, ReadBoth}
-use Rattle.ghozrembu.specs.BuiltBytes.{parts_in, build_number, built_bytes, buffer_built}
+use Rattle.ghozrembu.specs.BuiltBytes.{build_number, built_bytes, buffer_built}
 use Rattle.ghozrembu.specs.declared.values.Values.{Values}
 use Rattle.ghozrembu.proofs.BuildLaws.{value_number, value_built, value_buffer}
 use Rattle.demands.specs.Promises.{plan_in, Readable}

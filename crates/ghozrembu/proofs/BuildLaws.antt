@@ -4,8 +4,8 @@ use mathlib.Core.Path.{◌≡◌, refl, ap, sym, ◌∙◌}
 use mathlib.Core.List.{List}
 use Prim.Native.Nat.{ℕ}
 use lib.ListN.{length}
-use Rattle.numbers.specs.First.{met, met_hit}
-use Rattle.judge.specs.Verdict.{refused, judged}
+use Rattle.numbers.specs.First.{met_hit}
+use Rattle.judge.specs.Verdict.{refused}
 use Rattle.judge.specs.declared.Answer.{Answer}
 use Rattle.builder.specs.Built.{built_number, built_of, buffer_of}
 use Rattle.builder.specs.declared.Built.{Built}

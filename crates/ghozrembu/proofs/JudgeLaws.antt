@@ -2,10 +2,9 @@
 -- Assumes nothing.
 use mathlib.Core.Path.{◌≡◌, refl, ap, sym, ◌∙◌}
 use mathlib.Core.List.{List}
-use Prim.Native.Nat.{ℕ, zero, suc, ◌+◌, ◌*◌, ◌≤◌, ◌<◌}
+use Prim.Native.Nat.{ℕ, zero, suc, ◌≤◌}
 use Rattle.numbers.specs.First.{met, met_here, met_there, met_stop, met_go}
 use Rattle.model.specs.Limits.{most_partitions}
-use Rattle.model.specs.Columns.{periods_of, budgets_of}
 use Rattle.model.specs.Decoded.{decoded_number, starts_number}
 use Rattle.model.specs.declared.records.Plan.{Plan}
 use Rattle.model.specs.declared.records.Sheet.{Sheet}
@@ -18,7 +17,7 @@ use Rattle.reader.proofs.Outcome.{read_number, read_sheet, read_delays, read_pla
 use Rattle.reader.proofs.Fits.{head_inside, head_zero_holds}
 use Rattle.reader.proofs.Passing.{sheet_passes}
 use Rattle.reader.proofs.Plans.{plan_passes}
-use Rattle.judge.specs.Verdict.{refused, or_next, verdict, judged}
+use Rattle.judge.specs.Verdict.{refused, or_next, judged}
 use Rattle.judge.specs.declared.Answer.{Answer}
 use Rattle.judge.proofs.Stages.{or_pass, or_stop, or_go}
 use Rattle.ghozrembu.specs.Judged.{partitions_in, verdict_of, judged_bytes, ReadBoth}

@@ -7,8 +7,7 @@ use Prim.Native.Nat.{ℕ}
 use lib.Dec.{eqb}
 use lib.ListN.{length}
 use borrow.Author.Tests.{ne_eqb}
-use Rattle.numbers.specs.First.{met, met_hit, broken}
-use Rattle.model.specs.declared.records.Sheet.{Sheet}
+use Rattle.numbers.specs.First.{met_hit}
 use Rattle.layout.specs.Values.{sheet_of, delays_of}
 use Rattle.reader.specs.Number.{sheet_number, sheet_read, delays_read}
 use Rattle.reader.specs.declared.Reading.{Reading}

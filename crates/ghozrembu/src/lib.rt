@@ -1,6 +1,7 @@
 // The calls on bytes: a sheet's and a plan's bytes to verdicts, plans and tables. Every byte string of every length gets its number
 // (document 01, "Numbers returned"). `c` has them under their names in C; the crate `ghozrembu_c` exports those.
 #![tactic(auto)]
+
 mod building;
 pub mod c;
 mod judging;

@@ -1,5 +1,6 @@
 // Whether two strictly periodic partitions ever run at one tick: Korst's condition.
 #![tactic(auto)]
+
 ghost use Rattle.std.specs.Prelude.{◌≡◌, ◌≤◌};
 ghost use Rattle.overlap.specs.Overlap.{gap_of, clear_by};
 

@@ -1,8 +1,7 @@
 -- `bits::field` meets its contract. The loop's invariant: v is what the first i bits spell. The measure: the bits left.
 -- Assumes nothing.
-use mathlib.Core.Path.{◌≡◌, ap, ◌∙◌}
-use Prim.Native.Nat.{◌≤◌, ◌<◌, ◌-◌, ◌+◌, ◌^◌}
-use native.Mathlib.Nat.{le_antisymm}
+use mathlib.Core.Path.{◌∙◌}
+use Prim.Native.Nat.{◌<◌, ◌+◌, ◌^◌}
 use native.Mathlib.Omega.{arith}
 use Rattle.bits.specs.Field.{field_of, bit_of}
 use Rattle.bits.proofs.Laws.{bit_below_two, field_next}

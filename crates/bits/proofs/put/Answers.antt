@@ -1,10 +1,9 @@
 -- `bits::put` meets its contract. The loop's invariant: what is left to write gives the whole.
 -- Assumes nothing.
-use mathlib.Core.Path.{◌≡◌, refl, ap, sym, ◌∙◌}
-use Prim.Native.Nat.{ℕ, ◌≤◌, ◌-◌, ◌+◌, ◌/◌, ◌%◌}
-use native.Mathlib.Nat.{add-zero, sub-zero}
+use mathlib.Core.Path.{◌≡◌, ap, sym, ◌∙◌}
+use Prim.Native.Nat.{ℕ, ◌-◌, ◌+◌, ◌/◌, ◌%◌}
 use native.Mathlib.Omega.{arith}
-use lib.ListN.{length, length-set, set, get_or}
+use lib.ListN.{length-set, set, get_or}
 use Rattle.bits.specs.Field.{put_field, put_bit, with_bit}
 use Rattle.bits.proofs.Turns.{put_next}
 use Rattle.bits.proofs.Masks.{last_bit}

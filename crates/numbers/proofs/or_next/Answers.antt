@@ -1,5 +1,5 @@
 -- `numbers::or_next` meets its contract. Assumes nothing.
-use mathlib.Core.Path.{sym, refl}
+use mathlib.Core.Path.{sym}
 use Rattle.numbers.specs.First.{met, met_hit}
 use Rattle.numbers.proofs.or_next.Goals as goal
 

@@ -2,7 +2,6 @@
 -- Assumes nothing.
 use mathlib.Core.Path.{sym}
 use native.Mathlib.Omega.{arith}
-use borrow.Author.Rules.{rules}
 use Rattle.overlap.proofs.Residues.{gap_at_most}
 use Rattle.overlap.proofs.Answers.{second_decides, no_by_first}
 use Rattle.overlap.proofs.clear.Goals as goal

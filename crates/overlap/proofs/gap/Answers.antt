@@ -1,9 +1,6 @@
 -- `overlap::gap` meets its contract: one remainder, taken forward or back.
 -- Assumes nothing.
-use Prim.Native.Nat.{◌-◌}
-use native.Mathlib.Nat.{mod-lt}
 use native.Mathlib.Omega.{arith}
-use borrow.Author.Rules.{rules}
 use Rattle.overlap.proofs.Residues.{gap_forward, gap_none, gap_back}
 use Rattle.overlap.proofs.gap.Goals as goal
 

@@ -4,7 +4,6 @@ use mathlib.Core.Path.{ap}
 use Prim.Native.Nat.{ℕ, ◌/◌, ◌^◌}
 use lib.Bits.{and_mask}
 use lib.Dec.{eqb}
-use borrow.Author.Rules.{rules}
 use Rattle.sets.specs.Members.{member}
 use Rattle.sets.proofs.has.Goals as goal
 

@@ -2,12 +2,12 @@
 -- whole; each member left has room for a number of 32 bits. The measure: the set left, as a number.
 -- Assumes nothing.
 use mathlib.Core.Path.{◌≡◌, ap, ◌∙◌}
-use Prim.Native.Nat.{ℕ, ◌≤◌, ◌<◌, ◌*◌, ◌+◌, ◌^◌}
+use Prim.Native.Nat.{ℕ, ◌≤◌, ◌<◌}
 use native.Mathlib.Nat.{zero-add}
 use native.Mathlib.Omega.{arith}
 use borrow.Author.Rules.{rules}
 use lib.ListN.{get_or}
-use Rattle.sets.specs.Members.{sum_over, size_of, lowest_of}
+use Rattle.sets.specs.Members.{sum_over, lowest_of}
 use Rattle.sets.proofs.Laws.{sum_walk, size_walk, size_at_most, sum_of_empty, walk_falls, lowest_below}
 use Rattle.sets.proofs.sum.Goals as goal
 

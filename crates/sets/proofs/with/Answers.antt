@@ -7,7 +7,6 @@ use native.Mathlib.Omega.{arith}
 use lib.Bits.{bit_or}
 use lib.Dec.{lit<}
 use lib.Pow.{shl_exact}
-use borrow.Author.Rules.{rules}
 use Rattle.sets.proofs.Laws.{with_is_or}
 use Rattle.sets.proofs.with.Goals as goal
 

@@ -1,6 +1,5 @@
 -- `sets::without_lowest` meets its contract: x & (x - 1) takes the lowest member away.
 -- Assumes nothing.
-use borrow.Author.Rules.{rules}
 use Rattle.sets.proofs.Laws.{and_is_without_lowest}
 use Rattle.sets.proofs.without_lowest.Goals as goal
 

@@ -1,7 +1,5 @@
-
 use mathlib.Core.Path.{◌∙◌}
 use Rattle.ghozrembu.proofs.BuildLaws.{refused_built, refused_buffer, value_built, value_buffer}
-use borrow.Author.Rules.{rules}
 use Rattle.ghozrembu.proofs.building.build.Goals as goal
 
 pub returns-then-v-ne0 : goal.returns-then-v-ne0

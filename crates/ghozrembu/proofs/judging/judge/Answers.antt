@@ -1,7 +1,5 @@
-
 use mathlib.Core.Path.{◌∙◌}
 use Rattle.ghozrembu.proofs.JudgeLaws.{by_reading, by_values}
-use borrow.Author.Rules.{rules}
 use Rattle.ghozrembu.proofs.judging.judge.Goals as goal
 
 pub returns-then-v-ne0 : goal.returns-then-v-ne0

@@ -2,7 +2,6 @@
 use native.Mathlib.Omega.{arith}
 use Rattle.bits.proofs.Laws.{field_below}
 use Rattle.ghozrembu.proofs.LookLaws.{budget_of_four, budget_of_others}
-use borrow.Author.Rules.{rules}
 use Rattle.ghozrembu.proofs.looks.budget_of.Goals as goal
 
 pub overflow_mul-result : goal.overflow_mul-result

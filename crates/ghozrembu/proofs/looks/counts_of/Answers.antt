@@ -1,10 +1,8 @@
 -- `counts_of` meets its contract. Assumes nothing.
-use native.Mathlib.Omega.{arith}
 use mathlib.Core.Path.{ap, sym, ◌∙◌}
 use Rattle.model.specs.declared.records.Head.{Head}
 use Rattle.reader.proofs.Fits.{head_fits, head_zero_holds}
 use Rattle.ghozrembu.proofs.LookLaws.{counts_refused, counts_stand}
-use borrow.Author.Rules.{rules}
 use Rattle.ghozrembu.proofs.looks.counts_of.Goals as goal
 
 pub returns-then-number-ne0 : goal.returns-then-number-ne0

@@ -1,7 +1,6 @@
 -- `slot_at` meets its contract. Assumes nothing.
 use native.Mathlib.Omega.{arith}
 use Rattle.ghozrembu.proofs.LookLaws.{slot_there, slot_cut, slot_beyond}
-use borrow.Author.Rules.{rules}
 use Rattle.ghozrembu.proofs.looks.slot_at.Goals as goal
 
 pub returns-then-end-table : goal.returns-then-end-table

@@ -1,7 +1,5 @@
-
 use mathlib.Core.Path.{◌∙◌}
 use Rattle.ghozrembu.proofs.SearchLaws.{refused_found, refused_kept, value_found, value_kept}
-use borrow.Author.Rules.{rules}
 use Rattle.ghozrembu.proofs.searching.search.Goals as goal
 
 pub returns-then-s-ne0 : goal.returns-then-s-ne0

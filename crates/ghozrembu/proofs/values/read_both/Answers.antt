@@ -1,10 +1,8 @@
-
 use mathlib.Core.Path.{ap, sym, ◌∙◌}
 use native.Mathlib.Omega.{arith}
 use Rattle.model.specs.declared.records.Sheet.{Sheet}
 use Rattle.reader.proofs.Outcome.{read_number, read_sheet}
 use Rattle.ghozrembu.proofs.JudgeLaws.{partitions_room, read_stops, read_goes}
-use borrow.Author.Rules.{rules}
 use Rattle.ghozrembu.proofs.values.read_both.Goals as goal
 
 pub returns-then-s-ne0 : goal.returns-then-s-ne0

@@ -1,6 +1,5 @@
 -- `layout::values::byte` meets its contract. Assumes nothing.
 use native.Mathlib.Omega.{arith}
-use borrow.Author.Rules.{rules}
 use Rattle.layout.proofs.Rooms.{field_fits}
 use Rattle.layout.proofs.values.byte.Goals as goal
 

@@ -1,7 +1,6 @@
 -- `layout::values::delay_of` meets its contract. Assumes nothing.
 use Prim.Native.Nat.{◌+◌, ◌*◌}
 use native.Mathlib.Omega.{arith}
-use borrow.Author.Rules.{rules}
 use Rattle.bits.proofs.Laws.{field_below}
 use Rattle.model.specs.Widths.{delay_bits}
 use Rattle.layout.proofs.values.delay_of.Goals as goal

@@ -1,6 +1,5 @@
 -- `layout::values::length_of` meets its contract. Assumes nothing.
 use native.Mathlib.Omega.{arith}
-use borrow.Author.Rules.{rules}
 use Rattle.layout.proofs.Rooms.{length_small}
 use Rattle.layout.proofs.values.length_of.Goals as goal
 

@@ -1,10 +1,7 @@
 -- `layout::values::members_of` meets its contract. The loop's invariant: the array is filled up to i. Assumes nothing.
-use mathlib.Core.Path.{◌≡◌, sym}
-use Prim.Native.Nat.{◌≤◌, ◌-◌}
+use mathlib.Core.Path.{sym}
 use native.Mathlib.Omega.{arith}
-use borrow.Author.Rules.{rules}
 use Rattle.lists.specs.Filled.{filled_none, filled_more}
-use Rattle.layout.specs.Values.{members_of}
 use Rattle.layout.proofs.values.members_of.Goals as goal
 
 pub loop-j-init : goal.loop-j-init

@@ -1,12 +1,9 @@
 -- `model::columns::column_of` meets its contract. The loop's invariant: the array is filled up to i. Assumes nothing.
 use mathlib.Core.Path.{◌≡◌, sym}
-use Prim.Native.Nat.{ℕ, ◌≤◌, ◌-◌}
 use native.Mathlib.Omega.{arith}
-use lib.ListN.{get_or}
-use Rattle.lists.specs.Filled.{filled, filled_none, filled_more}
+use Rattle.lists.specs.Filled.{filled_none, filled_more}
 use Rattle.model.specs.Limits.{most_partitions}
-use Rattle.model.specs.None.{no_partition}
-use Rattle.model.specs.Columns.{value_of, column_of}
+use Rattle.model.specs.Columns.{column_of}
 use Rattle.model.proofs.columns.column_of.Goals as goal
 
 pub loop-i-init : goal.loop-i-init

@@ -1,11 +1,6 @@
 -- `model::decoded::delays_number` meets its contract. The loop's invariant: what is left to meet is what the whole meets. Assumes nothing.
-use mathlib.Core.List.{[]}
-use Prim.Native.Nat.{ℕ, ◌-◌}
 use native.Mathlib.Omega.{arith}
-use lib.ListN.{get_or}
-use Rattle.numbers.proofs.Passed.{Passed}
-use Rattle.numbers.specs.First.{first_start, first_hit, first_pass, first_end}
-use Rattle.model.specs.Rules.{diagonal_rule}
+use Rattle.numbers.specs.First.{first_hit, first_pass, first_end}
 use Rattle.model.specs.Decoded.{decoded_delays}
 use Rattle.model.proofs.decoded.delays_number.Goals as goal
 

@@ -1,11 +1,7 @@
 -- `model::decoded::modules_number` meets its contract. The loop's invariant: what is left to meet is what the whole meets. Assumes nothing.
-use Prim.Native.Nat.{ℕ, ◌-◌}
 use native.Mathlib.Omega.{arith}
-use lib.ListN.{get_or}
-use Rattle.numbers.proofs.Passed.{Passed}
-use Rattle.numbers.specs.First.{first_start, first_hit, first_pass, first_end}
-use Rattle.model.specs.Decoded.{module_large, decoded_modules}
-use Rattle.model.specs.None.{no_module}
+use Rattle.numbers.specs.First.{first_hit, first_pass, first_end}
+use Rattle.model.specs.Decoded.{decoded_modules}
 use Rattle.model.proofs.decoded.modules_number.Goals as goal
 
 pub returns-then-x-ne0 : goal.returns-then-x-ne0

@@ -1,7 +1,6 @@
 -- `model::fields::large` meets its contract. Assumes nothing.
 use mathlib.Core.Path.{ap, ◌∙◌}
 use mathlib.Core.Bool.{Bool}
-use borrow.Author.Rules.{rules}
 use Rattle.numbers.specs.Numbers.{too_large}
 use Rattle.numbers.specs.First.{broken}
 use Rattle.model.specs.Decoded.{large}

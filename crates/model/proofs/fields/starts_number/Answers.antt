@@ -1,11 +1,7 @@
 -- `model::fields::starts_number` meets its contract. The loop's invariant: what is left to meet is what the whole meets. Assumes nothing.
 use mathlib.Core.Path.{◌∙◌, ap}
-use Prim.Native.Nat.{ℕ, ◌-◌}
 use native.Mathlib.Omega.{arith}
-use lib.ListN.{get_or}
-use lib.Dec.{lit<}
-use Rattle.numbers.proofs.Passed.{Passed}
-use Rattle.numbers.specs.First.{first_start, first_hit, first_pass, first_end}
+use Rattle.numbers.specs.First.{first_hit, first_pass, first_end}
 use Rattle.model.specs.Widths.{start_bits}
 use Rattle.model.specs.Decoded.{large, starts_number}
 use Rattle.model.proofs.fields.starts_number.Goals as goal

@@ -1,5 +1,4 @@
 -- `model::rules::member_rule` meets its contract. Assumes nothing.
-use borrow.Author.Rules.{rules}
 use Rattle.model.proofs.Laws.{member_first, member_later}
 use Rattle.model.proofs.rules.member_rule.Goals as goal
 

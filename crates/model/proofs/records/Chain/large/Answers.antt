@@ -1,5 +1,4 @@
 -- `model::records::Chain::large` meets its contract. Assumes nothing.
-use lib.Dec.{lit<}
 use Rattle.model.specs.Decoded.{lead_large}
 use Rattle.model.proofs.records.Chain.large.Goals as goal
 

@@ -1,11 +1,7 @@
 -- `model::records::Chain::members_large` meets its contract. The loop's invariant: what is left to meet is what the whole meets. Assumes nothing.
 use mathlib.Core.Path.{◌∙◌, ap}
-use Prim.Native.Nat.{ℕ, ◌-◌}
 use native.Mathlib.Omega.{arith}
-use lib.ListN.{get_or}
-use lib.Dec.{lit<}
-use Rattle.numbers.proofs.Passed.{Passed}
-use Rattle.numbers.specs.First.{first_start, first_hit, first_pass, first_end}
+use Rattle.numbers.specs.First.{first_hit, first_pass, first_end}
 use Rattle.model.specs.Widths.{partition_number_bits}
 use Rattle.model.specs.Decoded.{large, members_large}
 use Rattle.model.proofs.records.Chain.members_large.Goals as goal

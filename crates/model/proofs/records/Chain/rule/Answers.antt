@@ -1,10 +1,7 @@
 -- `model::records::Chain::rule` meets its contract. The loop's invariant: what is left to meet is what the whole meets. Assumes nothing.
-use Prim.Native.Nat.{◌-◌}
 use native.Mathlib.Omega.{arith}
-use borrow.Author.Rules.{rules}
-use Rattle.numbers.proofs.Passed.{Passed}
-use Rattle.numbers.specs.First.{first_start, first_hit, first_pass, first_end}
-use Rattle.model.specs.Rules.{member_rule, members_rule}
+use Rattle.numbers.specs.First.{first_hit, first_pass, first_end}
+use Rattle.model.specs.Rules.{members_rule}
 use Rattle.model.proofs.records.Chain.rule.Goals as goal
 
 pub returns-then-x-ne0 : goal.returns-then-x-ne0

@@ -1,5 +1,4 @@
 -- `model::records::Exclusion::large` meets its contract. Assumes nothing.
-use lib.Dec.{lit<}
 use Rattle.model.specs.Decoded.{exclusion_large}
 use Rattle.model.proofs.records.Exclusion.large.Goals as goal
 

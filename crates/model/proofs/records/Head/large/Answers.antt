@@ -1,5 +1,4 @@
 -- `model::records::Head::large` meets its contract. Assumes nothing.
-use lib.Dec.{lit<}
 use Rattle.model.specs.Decoded.{head_large}
 use Rattle.model.proofs.records.Head.large.Goals as goal
 

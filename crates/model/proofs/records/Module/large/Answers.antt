@@ -1,5 +1,4 @@
 -- `model::records::Module::large` meets its contract. Assumes nothing.
-use lib.Dec.{lit<}
 use Rattle.model.specs.Decoded.{module_large}
 use Rattle.model.proofs.records.Module.large.Goals as goal
 

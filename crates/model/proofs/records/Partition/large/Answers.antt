@@ -1,5 +1,4 @@
 -- `model::records::Partition::large` meets its contract. Assumes nothing.
-use lib.Dec.{lit<}
 use Rattle.model.specs.Decoded.{partition_large}
 use Rattle.model.proofs.records.Partition.large.Goals as goal
 
