@@ -30,7 +30,7 @@ pub fn build_set(
     buffer: &mut [u8],
 ) -> Built
     requires timed { Timed periods.now set }
-    requires fact { Module (parts_of periods.now budgets.now starts.now set) }
+    requires module_parts { Module (parts_of periods.now budgets.now starts.now set) }
     ensures { (result ≡ returned (room_number (parts_of periods.now budgets.now starts.now set) (length buffer.old)) (parts_of periods.now budgets.now starts.now set))
         × (buffer.new ≡ left (room_number (parts_of periods.now budgets.now starts.now set) (length buffer.old)) (parts_of periods.now budgets.now starts.now set) buffer.old) }
 {

@@ -58,8 +58,8 @@ build_set-requires-clause-timed c = let index : c.args.m < 16 = omega (arith, c.
     let e = the-set in
     found_timed a.s a.d a.p g a.m c.periods-periods.ensures c.budgets-budgets.ensures e
 
-pub build_set-requires-clause-fact : goal.build_set-requires-clause-fact
-build_set-requires-clause-fact c = let index : c.args.m < 16 = omega (arith, c.if-m-h.false, (good c.args.s c.args.d c.args.p (ap (λ (a : Answer). a.number) (sym c.judge-a.ensures) ∙ c.if-a-ne0.false)).fair.head.inside.modules) in
+pub build_set-requires-clause-module_parts : goal.build_set-requires-clause-module_parts
+build_set-requires-clause-module_parts c = let index : c.args.m < 16 = omega (arith, c.if-m-h.false, (good c.args.s c.args.d c.args.p (ap (λ (a : Answer). a.number) (sym c.judge-a.ensures) ∙ c.if-a-ne0.false)).fair.head.inside.modules) in
     let the-set : get_or c.hosted-sets.result c.args.m 0 ≡ set_of (is_on c.args.p.modules c.args.m) c.args.s.head.partitions = ap (λ (l : List ℕ). get_or l c.args.m 0) c.hosted-sets.ensures
     ∙ set_at c.args.p.modules c.args.s.head.partitions c.args.m (index) in
     let a = c.args in

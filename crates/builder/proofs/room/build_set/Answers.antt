@@ -22,7 +22,7 @@ returns-then-frame c = let d = c.args.buffer.now in
 pub returns-then-count : goal.returns-then-count
 returns-then-count c = let exact-frame : c.frame_of-frame.result ≡ frame (parts_of c.args.periods.now c.args.budgets.now c.args.starts.now c.args.set) = (c.frame_of-frame.ensures c.args.budgets.now c.args.starts.now).exact c.if-frame.false in
     let small-frame : frame (parts_of c.args.periods.now c.args.budgets.now c.args.starts.now c.args.set) ≤ most_frame = omega (arith, exact-frame, c.if-frame.false) in
-    let counted : c.slot_count-count.result ≡ length (slots_of (parts_of c.args.periods.now c.args.budgets.now c.args.starts.now c.args.set)) = count_is (parts_of c.args.periods.now c.args.budgets.now c.args.starts.now c.args.set) c.requires.fact.fine (exact-frame) (c.slot_count-count.ensures c.args.budgets.now c.args.starts.now) in
+    let counted : c.slot_count-count.result ≡ length (slots_of (parts_of c.args.periods.now c.args.budgets.now c.args.starts.now c.args.set)) = count_is (parts_of c.args.periods.now c.args.budgets.now c.args.starts.now c.args.set) c.requires.module_parts.fine (exact-frame) (c.slot_count-count.ensures c.args.budgets.now c.args.starts.now) in
     let d = c.args.buffer.now in
     let ps = parts_of c.args.periods.now c.args.budgets.now c.args.starts.now c.args.set in
     let e = room_slots ps (length d) (small-frame) (omega (arith, counted, c.if-count.true)) in
@@ -31,7 +31,7 @@ returns-then-count c = let exact-frame : c.frame_of-frame.result ≡ frame (part
 pub returns-then-buffer-length : goal.returns-then-buffer-length
 returns-then-buffer-length c = let exact-frame : c.frame_of-frame.result ≡ frame (parts_of c.args.periods.now c.args.budgets.now c.args.starts.now c.args.set) = (c.frame_of-frame.ensures c.args.budgets.now c.args.starts.now).exact c.if-frame.false in
     let small-frame : frame (parts_of c.args.periods.now c.args.budgets.now c.args.starts.now c.args.set) ≤ most_frame = omega (arith, exact-frame, c.if-frame.false) in
-    let counted : c.slot_count-count.result ≡ length (slots_of (parts_of c.args.periods.now c.args.budgets.now c.args.starts.now c.args.set)) = count_is (parts_of c.args.periods.now c.args.budgets.now c.args.starts.now c.args.set) c.requires.fact.fine (exact-frame) (c.slot_count-count.ensures c.args.budgets.now c.args.starts.now) in
+    let counted : c.slot_count-count.result ≡ length (slots_of (parts_of c.args.periods.now c.args.budgets.now c.args.starts.now c.args.set)) = count_is (parts_of c.args.periods.now c.args.budgets.now c.args.starts.now c.args.set) c.requires.module_parts.fine (exact-frame) (c.slot_count-count.ensures c.args.budgets.now c.args.starts.now) in
     let few-slots : length (slots_of (parts_of c.args.periods.now c.args.budgets.now c.args.starts.now c.args.set)) ≤ most_slots = omega (arith, counted, c.if-count.false) in
     let d = c.args.buffer.now in
     let ps = parts_of c.args.periods.now c.args.budgets.now c.args.starts.now c.args.set in
@@ -40,16 +40,16 @@ returns-then-buffer-length c = let exact-frame : c.frame_of-frame.result ≡ fra
 
 pub write_table-requires-clause-ready : goal.write_table-requires-clause-ready
 write_table-requires-clause-ready c = let exact-frame : c.frame_of-frame.result ≡ frame (parts_of c.args.periods.now c.args.budgets.now c.args.starts.now c.args.set) = (c.frame_of-frame.ensures c.args.budgets.now c.args.starts.now).exact c.if-frame.false in
-    let counted : c.slot_count-count.result ≡ length (slots_of (parts_of c.args.periods.now c.args.budgets.now c.args.starts.now c.args.set)) = count_is (parts_of c.args.periods.now c.args.budgets.now c.args.starts.now c.args.set) c.requires.fact.fine (exact-frame) (c.slot_count-count.ensures c.args.budgets.now c.args.starts.now) in
+    let counted : c.slot_count-count.result ≡ length (slots_of (parts_of c.args.periods.now c.args.budgets.now c.args.starts.now c.args.set)) = count_is (parts_of c.args.periods.now c.args.budgets.now c.args.starts.now c.args.set) c.requires.module_parts.fine (exact-frame) (c.slot_count-count.ensures c.args.budgets.now c.args.starts.now) in
     let ps = parts_of c.args.periods.now c.args.budgets.now c.args.starts.now c.args.set in
     let f = exact-frame in
     let n = counted in
-    record { timed = c.requires.timed; hosted = c.requires.fact; frame_is = f; slots_are = n; small = omega (arith, c.if-frame.false); few = omega (arith, c.if-count.false) }
+    record { timed = c.requires.timed; hosted = c.requires.module_parts; frame_is = f; slots_are = n; small = omega (arith, c.if-frame.false); few = omega (arith, c.if-count.false) }
 
 pub returns : goal.returns
 returns c = let exact-frame : c.frame_of-frame.result ≡ frame (parts_of c.args.periods.now c.args.budgets.now c.args.starts.now c.args.set) = (c.frame_of-frame.ensures c.args.budgets.now c.args.starts.now).exact c.if-frame.false in
     let small-frame : frame (parts_of c.args.periods.now c.args.budgets.now c.args.starts.now c.args.set) ≤ most_frame = omega (arith, exact-frame, c.if-frame.false) in
-    let counted : c.slot_count-count.result ≡ length (slots_of (parts_of c.args.periods.now c.args.budgets.now c.args.starts.now c.args.set)) = count_is (parts_of c.args.periods.now c.args.budgets.now c.args.starts.now c.args.set) c.requires.fact.fine (exact-frame) (c.slot_count-count.ensures c.args.budgets.now c.args.starts.now) in
+    let counted : c.slot_count-count.result ≡ length (slots_of (parts_of c.args.periods.now c.args.budgets.now c.args.starts.now c.args.set)) = count_is (parts_of c.args.periods.now c.args.budgets.now c.args.starts.now c.args.set) c.requires.module_parts.fine (exact-frame) (c.slot_count-count.ensures c.args.budgets.now c.args.starts.now) in
     let few-slots : length (slots_of (parts_of c.args.periods.now c.args.budgets.now c.args.starts.now c.args.set)) ≤ most_slots = omega (arith, counted, c.if-count.false) in
     let d = c.args.buffer.now in
     let ps = parts_of c.args.periods.now c.args.budgets.now c.args.starts.now c.args.set in

@@ -36,8 +36,8 @@ loop-i-preserved c = let l = c.loop-i in
       ),
     )
 
-pub end_number-requires-clause-at_bound_2 : goal.end_number-requires-clause-at_bound_2
-end_number-requires-clause-at_bound_2 c = let l = c.loop-i in chain_low _ c.requires.inside _ l.i l.invariant.0 l.invariant.1.0
+pub end_number-requires-clause-at_small : goal.end_number-requires-clause-at_small
+end_number-requires-clause-at_small c = let l = c.loop-i in chain_low _ c.requires.inside _ l.i l.invariant.0 l.invariant.1.0
 
 pub returns : goal.returns
 unfolding chains_number
