@@ -2,7 +2,7 @@
 # The three programs, the command and the C example on files as users have them: missing, empty, cut short, far too long.
 # All that they print and write is compared with the second program. The last line is 'N passed, 0 failed'.
 #
-# What is needed is built first: the programs (rt check), the library (./ghozrembu library), the second program (cargo). With
+# What is needed is built first: the programs (./ghozrembu programs), the library (./ghozrembu library), the second program (cargo). With
 # `tests/programs.sh BIN LIB` the programs are taken from the folder BIN and the library from the folder LIB as they are.
 set -u
 cd "$(dirname "$0")/.." || exit 1
@@ -33,7 +33,7 @@ stop() {
 bin=${1:-target/bin}
 lib=${2:-target/lib}
 if [ $# -eq 0 ]; then
-    rt check judge_program search_program builder_program || stop "the programs are not proved"
+    ./ghozrembu programs || stop "the programs are not proved"
     ./ghozrembu library || stop "the library is not proved"
 fi
 cargo build --release --offline --quiet --manifest-path tests/second/Cargo.toml --bin files || stop "cargo build failed"

@@ -7,7 +7,7 @@ use lib.Dec.{ltb, leb}
 use lib.ListN.{length, take, drop}
 use lib.Seq.{take_at}
 use borrow.Author.Tests.{ltb-false, eqb-true, eq-eqb}
-use Rattle.numbers.specs.Numbers.{fine, no_such_module, too_many_slots}
+use Rattle.numbers.specs.Numbers.{no_such_module, too_many_slots}
 use Rattle.numbers.specs.First.{broken, met_here, met_there}
 use Rattle.model.specs.Columns.{periods_of, budgets_of}
 use Rattle.model.specs.declared.records.Sheet.{Sheet}

@@ -1,6 +1,7 @@
 // The builder: the frame table of one module of an accepted plan, written into a lent buffer. It knows decoded values and nothing of bits:
 // slots are handed to the writer of `table`. It goes from slot to slot and never tick by tick.
 #![tactic(auto)]
+
 ghost use Rattle.std.specs.Prelude.{◌≡◌};
 ghost use Rattle.builder.specs.Built.{built_of, buffer_of};
 

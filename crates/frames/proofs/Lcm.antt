@@ -21,9 +21,9 @@ unfolding frame_from
 from_pos f [] h a = h
 from_pos f (p ∷ ps) h a = from_pos (lcm_of f p.period) ps (lcm_pos f p.period h a.0) a.1
 
-from_period : (f : ℕ) {p : Part} {ps : List Part} → In p ps → p.period ∣ frame_from f ps
+from_period : {p : Part} (f : ℕ) {ps : List Part} → In p ps → p.period ∣ frame_from f ps
 unfolding frame_from
-from_period f {p} (here {ps = ps}) = dvd_trans p.period (lcm_right f p.period) (from_divides (lcm_of f p.period) ps)
+from_period {p = p} f (here {ps = ps}) = dvd_trans p.period (lcm_right f p.period) (from_divides (lcm_of f p.period) ps)
 from_period f (there {q = q} i) = from_period (lcm_of f q.period) i
 
 from_least : (f : ℕ) (ps : List Part) (k : ℕ) → 1 ≤ f → All Positive ps → f ∣ k → All (λ p. p.period ∣ k) ps → frame_from f ps ∣ k

@@ -3,7 +3,6 @@
 -- Assumes nothing.
 use mathlib.Core.Path.{◌≡◌, refl}
 use mathlib.Core.List.{List, [], ◌∷◌}
-use Prim.Native.Nat.{ℕ}
 use Rattle.bits.specs.Field.{field_of}
 use Rattle.numbers.specs.First.{met, first_met}
 use Rattle.euclid.specs.Euclid.{euclid}

@@ -9,7 +9,6 @@ use mathlib.Core.Option.{none}
 use Prim.Native.Nat.{ℕ, ◌<◌, ◌≤◌}
 use native.Mathlib.Omega.{arith}
 use lib.ListN.{length}
-use Rattle.numbers.specs.Numbers as numbers
 use Rattle.model.specs.Fair.{Fair}
 use Rattle.model.specs.declared.records.Sheet.{Sheet}
 use Rattle.tries.specs.Tries.{found, absent, stopped, first, accepted}

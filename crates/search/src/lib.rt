@@ -1,6 +1,7 @@
 // The search: the first accepted plan within a budget of tries, or that there is none, or that the budget is spent (document 01, "The search
 // and its tries"). It knows decoded values and nothing of bits.
 #![tactic(auto)]
+
 ghost use Rattle.std.specs.Prelude.{◌≡◌, length};
 ghost use Rattle.search.specs.Answer.{found_of, buffer_after};
 

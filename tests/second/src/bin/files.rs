@@ -118,7 +118,7 @@ impl Files {
 fn ran(bin: &Path, program: &str, folder: &Path, word: Option<&str>) -> Left {
     let name = if program == "build" { "builder_program".to_string() } else { format!("{program}_program") };
     let output = Command::new(bin.join(&name)).args(word).current_dir(folder).output();
-    let output = or_stop(output, &format!("{name} (run 'rt check {name}' first)"));
+    let output = or_stop(output, &format!("{name} (run './ghozrembu programs' first)"));
     let mut written = vec![];
     for entry in or_stop(std::fs::read_dir(folder), "a folder").flatten() {
         let name = entry.file_name().to_string_lossy().into_owned();

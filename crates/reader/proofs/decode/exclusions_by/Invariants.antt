@@ -1,0 +1,11 @@
+-- `reader::decode::exclusions_by` meets its contract. The loop's invariant: the array is filled up to i. Assumes nothing.
+use mathlib.Core.Path.{◌≡◌}
+use Prim.Native.Nat.{◌≤◌, ◌-◌}
+use Rattle.layout.specs.Values.{exclusions_by}
+use Rattle.reader.proofs.decode.exclusions_by.Given as goal
+
+abbrev pub invariant-loop-i : goal.invariant-loop-i
+invariant-loop-i l = (l.i ≤ l.h.exclusions) × (l.all ≡ exclusions_by l.b l.h l.i)
+
+abbrev pub decreases-loop-i : goal.decreases-loop-i
+decreases-loop-i l = l.h.exclusions - l.i
