@@ -39,17 +39,17 @@ fn read_full(file: &mut impl Read, buffer: &mut [u8]) -> usize
     done
 }
 
-// Two numbers on a line.
+// Two numbers on a line of standard output. An error is that of the write that failed, and part of the line may be written.
 pub fn print_two(rt: &impl Print, a: u64, b: u64) -> io::Result<()> {
     println!(rt; "{a} {b}")
 }
 
-// Three numbers on a line.
+// Three numbers on a line, as `print_two`.
 pub fn print_three(rt: &impl Print, a: u64, b: u64, c: u64) -> io::Result<()> {
     println!(rt; "{a} {b} {c}")
 }
 
-// Four numbers on a line.
+// Four numbers on a line, as `print_two`.
 pub fn print_four(rt: &impl Print, a: u64, b: u64, c: u64, d: u64) -> io::Result<()> {
     println!(rt; "{a} {b} {c} {d}")
 }
