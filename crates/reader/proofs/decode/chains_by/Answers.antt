@@ -28,7 +28,7 @@ chain_of-one-requires c =
     (record {
       lead_bits_bound = omega arith;
       at_bound = (w.lengths l.i c.loop-i-test.true, there);
-      at_bound_2 = rw e at (chain_low _ w.inside _ l.i l.invariant.0 e);
+      at_small = rw e at (chain_low _ w.inside _ l.i l.invariant.0 e);
     })
 
 pub chain_end-at-requires : goal.chain_end-at-requires
