@@ -10,6 +10,7 @@ use model::records::Sheet;
 use table::records::Table;
 
 // The least common multiple of the periods of a set's partitions, or 1 for an empty set. It stops as soon as it outgrows a table's field.
+#[tactic(auto, using(sets::proofs::Laws::lowest_below))]
 pub fn frame_of(set: u64, periods: &[u32; Sheet::PARTITIONS]) -> u64
     requires { Timed periods.now set }
     ensures { (B ts : List ℕ) → FrameFound (parts_of periods.now B ts set) result }
@@ -28,6 +29,7 @@ pub fn frame_of(set: u64, periods: &[u32; Sheet::PARTITIONS]) -> u64
 }
 
 // How many slots a frame has: of each partition of the set, one a period.
+#[tactic(auto, using(sets::proofs::Laws::lowest_below))]
 pub fn slot_count(set: u64, periods: &[u32; Sheet::PARTITIONS], frame: u64) -> u64
     requires timed { Timed periods.now set }
     requires frame_le_most_frame { frame ≤ most_frame }

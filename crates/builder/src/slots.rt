@@ -26,6 +26,7 @@ fn nearer(best: Slot, start: u32, length: u32, partition: u8) -> Slot
 }
 
 // The soonest execution from tick n on; its start is the frame where none begins before that.
+#[tactic(auto, using(sets::proofs::Laws::lowest_below))]
 pub fn soonest(
     set: u64,
     starts: &[u32; Sheet::PARTITIONS],

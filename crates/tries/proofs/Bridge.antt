@@ -13,45 +13,45 @@ use Rattle.tries.proofs.Laws.{dfs_answers}
 
 -- where the search stands: the outcome so far and the memory that holds the plan
 pub record State (M : Type 0) : Type 0 where
-  pub found? : Bool
-  pub stopped? : Bool
+  pub is_found : Bool
+  pub is_stopped : Bool
   pub made : ℕ
   pub mem : M
 
 module _ {M : Type 0} where
   abbrev pub fresh : ℕ → M → State M
-  fresh k m = record { found? = false; stopped? = false; made = k; mem = m }
+  fresh k m = record { is_found = false; is_stopped = false; made = k; mem = m }
 
   -- f at each of a list, until the state is an end
   unfoldable pub run_s : {A : Type 0} → (A → State M → State M) → List A → State M → State M
   run_s f [] o = o
-  run_s f (a ∷ rest) o = cond o.found? o (cond o.stopped? o (run_s f rest (f a o)))
+  run_s f (a ∷ rest) o = cond o.is_found o (cond o.is_stopped o (run_s f rest (f a o)))
 
   -- f at i, i + 1, .., n of them, until the state is an end: a loop of the code
   unfoldable pub loop : (ℕ → State M → State M) → ℕ → ℕ → State M → State M
   loop f zero i o = o
-  loop f (suc n) i o = cond o.found? o (cond o.stopped? o (loop f n (i + 1) (f i o)))
+  loop f (suc n) i o = cond o.is_found o (cond o.is_stopped o (loop f n (i + 1) (f i o)))
 
-  run_s_found : {A : Type 0} (f : A → State M → State M) (cs : List A) (o : State M) → o.found? ≡ true → run_s f cs o ≡ o
+  run_s_found : {A : Type 0} (f : A → State M → State M) (cs : List A) (o : State M) → o.is_found ≡ true → run_s f cs o ≡ o
   unfolding run_s
   run_s_found f [] o e = refl
   run_s_found f (a ∷ cs) o e = rw e
 
-  run_s_stopped : {A : Type 0} (f : A → State M → State M) (cs : List A) (o : State M) → o.stopped? ≡ true → run_s f cs o ≡ o
+  run_s_stopped : {A : Type 0} (f : A → State M → State M) (cs : List A) (o : State M) → o.is_stopped ≡ true → run_s f cs o ≡ o
   unfolding run_s
   run_s_stopped f [] o e = refl
-  run_s_stopped f (a ∷ cs) o e = go o.found?
+  run_s_stopped f (a ∷ cs) o e = go o.is_found
     where
-      go : (c : Bool) → cond c o (cond o.stopped? o (run_s f cs (f a o))) ≡ o
+      go : (c : Bool) → cond c o (cond o.is_stopped o (run_s f cs (f a o))) ≡ o
       go true = refl
       go false = rw e
 
   run_s_append : {A : Type 0} (f : A → State M → State M) (xs ys : List A) (o : State M) → run_s f (xs ++ ys) o ≡ run_s f ys (run_s f xs o)
   unfolding run_s
   run_s_append f [] ys o = refl
-  run_s_append f (x ∷ xs) ys o = go o.found? o.stopped? refl refl (run_s_append f xs ys (f x o))
+  run_s_append f (x ∷ xs) ys o = go o.is_found o.is_stopped refl refl (run_s_append f xs ys (f x o))
     where
-      go : (c d : Bool) → o.found? ≡ c → o.stopped? ≡ d → run_s f (xs ++ ys) (f x o) ≡ run_s f ys (run_s f xs (f x o))
+      go : (c d : Bool) → o.is_found ≡ c → o.is_stopped ≡ d → run_s f (xs ++ ys) (f x o) ≡ run_s f ys (run_s f xs (f x o))
           → cond c o (cond d o (run_s f (xs ++ ys) (f x o))) ≡ run_s f ys (cond c o (cond d o (run_s f xs (f x o))))
       go true d p q e = sym (run_s_found f ys o p)
       go false true p q e = sym (run_s_stopped f ys o q)
@@ -60,18 +60,18 @@ module _ {M : Type 0} where
   row_is : (f : ℕ × ℕ → State M → State M) (m w i : ℕ) (o : State M) → loop (λ t. f (m, t)) w i o ≡ run_s f (map {B = ℕ × ℕ} (λ t. (m, t)) (upward w i)) o
   unfolding loop run_s upward
   row_is f m zero i o = refl
-  row_is f m (suc w) i o = ap (λ x. cond o.found? o (cond o.stopped? o x)) (row_is f m w (i + 1) (f (m, i) o))
+  row_is f m (suc w) i o = ap (λ x. cond o.is_found o (cond o.is_stopped o x)) (row_is f m w (i + 1) (f (m, i) o))
 
   -- the code's two loops are one run over the pairs
   pub grid_is : (f : ℕ × ℕ → State M → State M) (w n i : ℕ) (o : State M) → loop (λ m. loop (λ t. f (m, t)) w 0) n i o ≡ run_s f (grid w n i) o
   unfolding loop grid
   grid_is f w zero i o = (unfold run_s in refl)
-  grid_is f w (suc n) i o = go o.found? o.stopped? refl refl (grid_is f w n (i + 1) (loop (λ t. f (i, t)) w 0 o))
+  grid_is f w (suc n) i o = go o.is_found o.is_stopped refl refl (grid_is f w n (i + 1) (loop (λ t. f (i, t)) w 0 o))
     where
       row : List (ℕ × ℕ)
       row = map {B = ℕ × ℕ} (λ t. (i, t)) (upward w 0)
 
-      go : (c d : Bool) → o.found? ≡ c → o.stopped? ≡ d → loop (λ m. loop (λ t. f (m, t)) w 0) n (i + 1) (loop (λ t. f (i, t)) w 0 o) ≡ run_s f (grid w n (i + 1)) (loop (λ t. f (i, t)) w 0 o)
+      go : (c d : Bool) → o.is_found ≡ c → o.is_stopped ≡ d → loop (λ m. loop (λ t. f (m, t)) w 0) n (i + 1) (loop (λ t. f (i, t)) w 0 o) ≡ run_s f (grid w n (i + 1)) (loop (λ t. f (i, t)) w 0 o)
           → cond c o (cond d o (loop (λ m. loop (λ t. f (m, t)) w 0) n (i + 1) (loop (λ t. f (i, t)) w 0 o))) ≡ run_s f (row ++ grid w n (i + 1)) o
       go true d p q e = sym (run_s_found f (row ++ grid w n (i + 1)) o p)
       go false true p q e = sym (run_s_stopped f (row ++ grid w n (i + 1)) o q)
@@ -94,10 +94,10 @@ module _ {A M : Type 0} where
     -- one try of the placement a for partition j; `judge` is the code's test, `next` the search over what is left
     unfoldable pub attempt_s : (M → ℕ → Bool) → ℕ → (State M → State M) → ℕ → A → State M → State M
     attempt_s judge budget next j a o =
-        cond (leb budget o.made) (record { found? = false; stopped? = true; made = o.made; mem = o.mem })
+        cond (leb budget o.made) (record { is_found = false; is_stopped = true; made = o.made; mem = o.mem })
         (cond (judge (put j a o.mem) j)
         (cond (ltb (j + 1) n) (next (fresh (o.made + 1) (put j a o.mem)))
-        (record { found? = true; stopped? = false; made = o.made + 1; mem = put j a o.mem }))
+        (record { is_found = true; is_stopped = false; made = o.made + 1; mem = put j a o.mem }))
         (fresh (o.made + 1) (put j a o.mem)))
 
     -- the search from partition j on, with r partitions left
@@ -107,7 +107,7 @@ module _ {A M : Type 0} where
 
   -- the answer that a state stands for
   unfoldable pub view : ℕ → (ℕ → M → List A) → State M → Answer A
-  view n read o = cond o.found? (found (read n o.mem) o.made) (cond o.stopped? (stopped o.made) (absent o.made))
+  view n read o = cond o.is_found (found (read n o.mem) o.made) (cond o.is_stopped (stopped o.made) (absent o.made))
 
   module _ (n : ℕ) (put : ℕ → A → M → M) (read : ℕ → M → List A) (Fits : M → Type 0) (c : Keeps n put read Fits) where
     -- a state that stands for an answer, with the first j placements still those of w
@@ -116,8 +116,8 @@ module _ {A M : Type 0} where
       pub fits : Fits o.mem
       pub kept : read j o.mem ≡ w
 
-    still : (o : State M) → o.found? ≡ false → o.stopped? ≡ false → o ≡ fresh o.made o.mem
-    still o p q = λ i. record { found? = p i; stopped? = q i; made = o.made; mem = o.mem }
+    still : (o : State M) → o.is_found ≡ false → o.is_stopped ≡ false → o ≡ fresh o.made o.mem
+    still o p q = λ i. record { is_found = p i; is_stopped = q i; made = o.made; mem = o.mem }
 
     run_s_shows : (j : ℕ) (w : List A) (f : A → State M → State M) (g : A → ℕ → Answer A)
         → (cs : List A) → ((a : A) → Memᴰ a cs → (k : ℕ) (m : M) → Fits m → read j m ≡ w → Shows j w (f a (fresh k m)) (g a k))
@@ -128,9 +128,9 @@ module _ {A M : Type 0} where
       where
         go : (o : State M) (x : Answer A) → Shows j w o x → ((k : ℕ) (m : M) → Fits m → read j m ≡ w → Shows j w (run_s f cs (fresh k m)) (run g cs k))
             → Shows j w (run_s f cs o) (thence x (run g cs))
-        go o x s t = rw (← s.shown) (cases o.found? o.stopped? refl refl)
+        go o x s t = rw (← s.shown) (cases o.is_found o.is_stopped refl refl)
           where
-            cases : (c d : Bool) → o.found? ≡ c → o.stopped? ≡ d → Shows j w (run_s f cs o) (thence (view n read o) (run g cs))
+            cases : (c d : Bool) → o.is_found ≡ c → o.is_stopped ≡ d → Shows j w (run_s f cs o) (thence (view n read o) (run g cs))
             cases true d p q = rw (run_s_found f cs o p) (record { shown = (unfold view thence in rw p); fits = s.fits; kept = s.kept })
             cases false true p q = rw (run_s_stopped f cs o q) (record { shown = (unfold view thence in rw (p, q)); fits = s.fits; kept = s.kept })
             cases false false p q =
@@ -156,12 +156,12 @@ module _ {A M : Type 0} where
         fit = c.fits j a m (omega arith) i
 
         deep : (r : ℕ) → j + suc r ≡ n → Shows (j + 1) v (next_s (fresh (k + 1) (put j a m))) (next v (k + 1))
-            → Shows j w (cond (ltb (j + 1) n) (next_s (fresh (k + 1) (put j a m))) (record { found? = true; stopped? = false; made = k + 1; mem = put j a m })) (deeper r next v (k + 1))
+            → Shows j w (cond (ltb (j + 1) n) (next_s (fresh (k + 1) (put j a m))) (record { is_found = true; is_stopped = false; made = k + 1; mem = put j a m })) (deeper r next v (k + 1))
         deep zero o t = rw (le-ltb (j + 1) n (omega arith)) (record { shown = (let whole : read n (put j a m) ≡ v = rw (← o) reads in ap (λ u. found u (k + 1)) whole); fits = fit; kept = c.same j a m (omega arith) i ∙ e })
         deep (suc r) o t = rw (lt-ltb (j + 1) n (omega arith)) (record { shown = t.shown; fits = t.fits; kept = c.down j _ _ (t.kept ∙ sym reads) ∙ (c.same j a m (omega arith) i ∙ e) })
 
         go : (p q : Bool) → sound (w ++ (a ∷ [])) ≡ q → Shows j w
-            (cond p (record { found? = false; stopped? = true; made = k; mem = m }) (cond q (cond (ltb (j + 1) n) (next_s (fresh (k + 1) (put j a m))) (record { found? = true; stopped? = false; made = k + 1; mem = put j a m })) (fresh (k + 1) (put j a m))))
+            (cond p (record { is_found = false; is_stopped = true; made = k; mem = m }) (cond q (cond (ltb (j + 1) n) (next_s (fresh (k + 1) (put j a m))) (record { is_found = true; is_stopped = false; made = k + 1; mem = put j a m })) (fresh (k + 1) (put j a m))))
             (cond p (stopped k) (cond q (deeper r next (w ++ (a ∷ [])) (k + 1)) (absent (k + 1))))
         go true q s = record { shown = refl; fits = i; kept = e }
         go false true s = deep r o (below v (k + 1) (put j a m) fit reads s)

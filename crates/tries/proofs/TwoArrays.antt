@@ -57,7 +57,7 @@ arrays_keep n = record {
 
 -- the same with the two arrays as the memory
 abbrev pub conv : Standing → State Arrays
-conv o = record { found? = o.found; stopped? = o.stopped; made = o.tries; mem = (o.modules, o.starts) }
+conv o = record { is_found = o.found; is_stopped = o.stopped; made = o.tries; mem = (o.modules, o.starts) }
 
 conv_rounds : (f : ℕ → Standing → Standing) (g : ℕ → State Arrays → State Arrays) → ((i : ℕ) (o : Standing) → conv (f i o) ≡ g i (conv o))
     → (n i : ℕ) (o : Standing) → conv (rounds f n i o) ≡ loop g n i (conv o)

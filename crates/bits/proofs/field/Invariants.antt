@@ -5,8 +5,6 @@ use Prim.Native.Nat.{◌≤◌, ◌-◌}
 use Rattle.bits.specs.Field.{field_of}
 use Rattle.bits.proofs.field.Given as goal
 
--- `bits::field` meets its contract. The loop's invariant: v is what the first i bits spell. The measure: the bits left.
--- Assumes nothing.
 abbrev pub invariant-loop-i : goal.invariant-loop-i
 invariant-loop-i l = (l.i ≤ l.n) × (l.v ≡ field_of l.s l.at l.i)
 

@@ -1,8 +1,7 @@
 -- `judge::judge` meets its contract: a sheet's number, then a start's, stops it. Where the sheet's number is 0 the sheet is fair, which is what
 -- the constraints ask. Assumes nothing.
-use mathlib.Core.Path.{◌∙◌, ap, sym}
-use Rattle.model.specs.Fair.{Fair}
-use Rattle.model.proofs.Fairness.{number_fair}
+use mathlib.Core.Path.{◌∙◌, ap}
+use Rattle.model.proofs.Fairness.{fair_where}
 use Rattle.judge.specs.Verdict.{refused, judged}
 use Rattle.judge.proofs.Stages.{or_stop, or_go}
 use Rattle.judge.proofs.Parts.{ready, verdict_by}
@@ -13,8 +12,7 @@ unfolding judged
 returns-then-number-ne0 c = c.refused.ensures ∙ or_stop _ (ap refused c.sheet_number-number.ensures) c.if-number-ne0.true
 
 pub starts_number-large-requires : goal.starts_number-large-requires
-starts_number-large-requires c = let fair : Fair c.args.s c.args.d = number_fair _ _ (sym c.sheet_number-number.ensures ∙ c.if-number-ne0.false) in
-    (fair).head.inside.partitions
+starts_number-large-requires c = (fair_where _ _ c.sheet_number-number.ensures c.if-number-ne0.false).head.inside.partitions
 
 pub returns-then-large-ne0 : goal.returns-then-large-ne0
 unfolding judged
@@ -22,16 +20,13 @@ returns-then-large-ne0 c = or_go (ap refused c.sheet_number-number.ensures) c.if
     (c.refused-then-large-ne0.ensures ∙ or_stop _ (ap refused c.starts_number-large.ensures) c.if-large-ne0.true)
 
 pub periods-periods-requires : goal.periods-periods-requires
-periods-periods-requires c = let fair : Fair c.args.s c.args.d = number_fair _ _ (sym c.sheet_number-number.ensures ∙ c.if-number-ne0.false) in
-    (fair).head.inside.partitions
+periods-periods-requires c = (fair_where _ _ c.sheet_number-number.ensures c.if-number-ne0.false).head.inside.partitions
 
 pub budgets-budgets-requires : goal.budgets-budgets-requires
-budgets-budgets-requires c = let fair : Fair c.args.s c.args.d = number_fair _ _ (sym c.sheet_number-number.ensures ∙ c.if-number-ne0.false) in
-    (fair).head.inside.partitions
+budgets-budgets-requires c = (fair_where _ _ c.sheet_number-number.ensures c.if-number-ne0.false).head.inside.partitions
 
 pub constraints-requires : goal.constraints-requires
-constraints-requires c = let fair : Fair c.args.s c.args.d = number_fair _ _ (sym c.sheet_number-number.ensures ∙ c.if-number-ne0.false) in
-    ready _ _ (fair) c.periods-periods.ensures
+constraints-requires c = ready _ _ (fair_where _ _ c.sheet_number-number.ensures c.if-number-ne0.false) c.periods-periods.ensures
 
 pub returns : goal.returns
 unfolding judged

@@ -2,27 +2,17 @@
 -- whole; each member left has room for a number of 32 bits. The measure: the set left, as a number.
 -- Assumes nothing.
 use mathlib.Core.Path.{◌≡◌, ap, ◌∙◌}
-use Prim.Native.Nat.{ℕ, ◌≤◌, ◌<◌}
+use Prim.Native.Nat.{ℕ, ◌≤◌}
 use native.Mathlib.Nat.{zero-add}
 use native.Mathlib.Omega.{arith}
 use borrow.Author.Rules.{rules}
 use lib.ListN.{get_or}
 use Rattle.sets.specs.Members.{sum_over, lowest_of}
-use Rattle.sets.proofs.Laws.{sum_walk, size_walk, size_at_most, sum_of_empty, walk_falls, lowest_below}
+use Rattle.sets.proofs.Laws.{sum_walk, size_walk, size_at_most, sum_of_empty, walk_falls}
 use Rattle.sets.proofs.sum.Goals as goal
 
 pub loop-left-init : goal.loop-left-init
 loop-left-init c = (search rules, zero-add _, omega (arith, size_at_most c.args.x))
-
-pub offset_bounds-a-i : goal.offset_bounds-a-i
-offset_bounds-a-i c = let index : c.lowest-i.result < 64 = let l = c.loop-left in
-    omega (arith, c.lowest-i.ensures, lowest_below l.left (omega arith) l.invariant.0) in
-    omega (arith, index)
-
-pub bounds-a-i : goal.bounds-a-i
-bounds-a-i c = let index : c.lowest-i.result < 64 = let l = c.loop-left in
-    omega (arith, c.lowest-i.ensures, lowest_below l.left (omega arith) l.invariant.0) in
-    index
 
 pub loop-left-smaller : goal.loop-left-smaller
 loop-left-smaller c = let l = c.loop-left in

@@ -4,7 +4,7 @@ use mathlib.Core.Path.{◌≡◌, ap, sym, ◌∙◌}
 use Prim.Native.Nat.{ℕ, ◌≤◌, ◌<◌}
 use native.Mathlib.Omega.{arith}
 use Rattle.sets.specs.Members.{lowest_of, without_lowest}
-use Rattle.sets.proofs.Laws.{lowest_below, walk_falls}
+use Rattle.sets.proofs.Laws.{walk_falls}
 use Rattle.builder.specs.Parts.{parts_of}
 use Rattle.euclid.specs.Euclid.{lcm_of}
 use Rattle.euclid.proofs.Laws.{lcm_pos}
@@ -19,16 +19,6 @@ returns-then-f-wide c = let T = c.args.periods.now in
     let l = c.loop-left in
     let k : most_frame < l.f = omega (arith, c.wide.ensures.0, c.if-f-wide.true) in
     λ B ts. found_early (parts_of T B ts c.args.set) (parts_of T B ts l.left) (timed_positive T B ts l.left l.invariant.2) l.invariant.1 (l.invariant.3 B ts) k
-
-pub offset_bounds-periods-i : goal.offset_bounds-periods-i
-offset_bounds-periods-i c = let index : c.lowest-i.result < 64 = let l = c.loop-left in
-    omega (arith, c.lowest-i.ensures, lowest_below l.left (omega arith) l.invariant.0) in
-    omega (arith, index)
-
-pub bounds-periods-i : goal.bounds-periods-i
-bounds-periods-i c = let index : c.lowest-i.result < 64 = let l = c.loop-left in
-    omega (arith, c.lowest-i.ensures, lowest_below l.left (omega arith) l.invariant.0) in
-    index
 
 pub loop-left-smaller : goal.loop-left-smaller
 loop-left-smaller c = let l = c.loop-left in

@@ -2,11 +2,11 @@
 -- for a frame. The measure: the set left, as a number.
 -- Assumes nothing.
 use mathlib.Core.Path.{◌≡◌, ap, ◌∙◌}
-use Prim.Native.Nat.{ℕ, ◌/◌, ◌≤◌, ◌<◌}
+use Prim.Native.Nat.{ℕ, ◌/◌, ◌≤◌}
 use native.Mathlib.Omega.{arith}
 use borrow.Author.Rules.{rules}
 use Rattle.sets.specs.Members.{lowest_of}
-use Rattle.sets.proofs.Laws.{lowest_below, walk_falls, size_walk, size_at_most}
+use Rattle.sets.proofs.Laws.{walk_falls, size_walk, size_at_most}
 use native.Mathlib.Nat.{zero-add, div-le_self}
 use Rattle.frames.specs.Frame.{Part}
 use Rattle.judge.specs.Constraints.{at}
@@ -16,28 +16,18 @@ use Rattle.builder.proofs.frame.slot_count.Goals as goal
 pub loop-left-init : goal.loop-left-init
 loop-left-init c = (search rules, c.requires.timed, (λ B ts. zero-add _), omega (arith, size_at_most c.args.set))
 
-pub offset_bounds-periods-i : goal.offset_bounds-periods-i
-offset_bounds-periods-i c = let index : c.lowest-i.result < 64 = let l = c.loop-left in
-    omega (arith, c.lowest-i.ensures, lowest_below l.left (omega arith) l.invariant.0) in
-    omega (arith, index)
-
-pub bounds-periods-i : goal.bounds-periods-i
-bounds-periods-i c = let index : c.lowest-i.result < 64 = let l = c.loop-left in
-    omega (arith, c.lowest-i.ensures, lowest_below l.left (omega arith) l.invariant.0) in
-    index
-
 pub nonzero_div-count : goal.nonzero_div-count
-nonzero_div-count c = let period : c.wide.result ≡ at c.args.periods.now (lowest_of c.loop-left.left) = c.wide.ensures.0 ∙ ap (at c.args.periods.now) c.lowest-i.ensures in
+nonzero_div-count c =
     let l = c.loop-left in
     let t = timed_here l.left (omega arith) l.invariant.0 c.args.periods.now l.invariant.1 in
-    omega (arith, t.0, period)
+    omega (arith, t.0, c.wide.ensures.0, ap (at c.args.periods.now) c.lowest-i.ensures)
 
 pub loop-left-smaller : goal.loop-left-smaller
 loop-left-smaller c = let l = c.loop-left in
     omega (arith, c.without_lowest-left.ensures, walk_falls l.left (omega arith) l.invariant.0)
 
 pub loop-left-preserved : goal.loop-left-preserved
-loop-left-preserved c = let period : c.wide.result ≡ at c.args.periods.now (lowest_of c.loop-left.left) = c.wide.ensures.0 ∙ ap (at c.args.periods.now) c.lowest-i.ensures in
+loop-left-preserved c =
     let l = c.loop-left in
     let T = c.args.periods.now in
     let F = c.args.frame in
@@ -45,7 +35,7 @@ loop-left-preserved c = let period : c.wide.result ≡ at c.args.periods.now (lo
     let b = l.invariant.0 in
     let w = walk_falls l.left h b in
     let n = size_walk l.left h b in
-    let v : F / c.wide.result ≡ F / at T (lowest_of l.left) = ap (λ (t : ℕ). F / t) (period) in
+    let v : F / c.wide.result ≡ F / at T (lowest_of l.left) = ap (λ (t : ℕ). F / t) (c.wide.ensures.0 ∙ ap (at T) c.lowest-i.ensures) in
     let r = l.invariant.3 in
     rw c.without_lowest-left.ensures (
       omega arith,

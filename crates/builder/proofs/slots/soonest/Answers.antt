@@ -5,7 +5,7 @@ use mathlib.Core.Path.{ap, sym, ◌∙◌}
 use Prim.Native.Nat.{ℕ, ◌+◌, ◌≤◌, ◌<◌, ◌^◌}
 use native.Mathlib.Omega.{arith}
 use Rattle.sets.specs.Members.{without_lowest}
-use Rattle.sets.proofs.Laws.{lowest_below, walk_falls}
+use Rattle.sets.proofs.Laws.{walk_falls}
 use Rattle.builder.specs.Parts.{parts_of}
 use Rattle.overlap.specs.Overlap.{gap_of}
 use Rattle.overlap.proofs.Residues.{gap_below}
@@ -16,51 +16,19 @@ use Rattle.builder.specs.Parts.{nearer}
 use Rattle.builder.proofs.Turns.{timed_here, timed_on, soonest_turn, soonest_end}
 use Rattle.builder.proofs.slots.soonest.Goals as goal
 
-pub offset_bounds-periods-i : goal.offset_bounds-periods-i
-offset_bounds-periods-i c = let index : c.lowest-i.result < 64 = let l = c.loop-left in
-    omega (arith, c.lowest-i.ensures, lowest_below l.left (omega arith) l.invariant.0) in
-    omega (arith, index)
-
-pub bounds-periods-i : goal.bounds-periods-i
-bounds-periods-i c = let index : c.lowest-i.result < 64 = let l = c.loop-left in
-    omega (arith, c.lowest-i.ensures, lowest_below l.left (omega arith) l.invariant.0) in
-    index
-
-pub offset_bounds-starts-i : goal.offset_bounds-starts-i
-offset_bounds-starts-i c = let index : c.lowest-i.result < 64 = let l = c.loop-left in
-    omega (arith, c.lowest-i.ensures, lowest_below l.left (omega arith) l.invariant.0) in
-    omega (arith, index)
-
-pub bounds-starts-i : goal.bounds-starts-i
-bounds-starts-i c = let index : c.lowest-i.result < 64 = let l = c.loop-left in
-    omega (arith, c.lowest-i.ensures, lowest_below l.left (omega arith) l.invariant.0) in
-    index
-
 pub gap-requires : goal.gap-requires
-gap-requires c = let time : (1 ≤ at c.args.periods.now c.lowest-i.result) × (at c.args.periods.now c.lowest-i.result < 2 ^ 16) = let l = c.loop-left in
-    rw c.lowest-i.ensures (timed_here l.left (omega arith) l.invariant.0 c.args.periods.now l.invariant.1) in
-    omega (arith, time.0)
+gap-requires c =
+    let l = c.loop-left in
+    let time = timed_here l.left (omega arith) l.invariant.0 c.args.periods.now l.invariant.1 in
+    rw c.lowest-i.ensures (omega (arith, time))
 
 pub overflow_add-start : goal.overflow_add-start
-overflow_add-start c = let time : (1 ≤ at c.args.periods.now c.lowest-i.result) × (at c.args.periods.now c.lowest-i.result < 2 ^ 16) = let l = c.loop-left in
-    rw c.lowest-i.ensures (timed_here l.left (omega arith) l.invariant.0 c.args.periods.now l.invariant.1) in
-    let start : c.gap.result < at c.args.periods.now c.lowest-i.result = omega (arith, c.gap.ensures, gap_below (at c.args.periods.now c.lowest-i.result) c.args.n (at c.args.starts.now c.lowest-i.result) time.0) in
-    omega (arith, start, time)
-
-pub offset_bounds-budgets-i : goal.offset_bounds-budgets-i
-offset_bounds-budgets-i c = let index : c.lowest-i.result < 64 = let l = c.loop-left in
-    omega (arith, c.lowest-i.ensures, lowest_below l.left (omega arith) l.invariant.0) in
-    omega (arith, index)
-
-pub bounds-budgets-i : goal.bounds-budgets-i
-bounds-budgets-i c = let index : c.lowest-i.result < 64 = let l = c.loop-left in
-    omega (arith, c.lowest-i.ensures, lowest_below l.left (omega arith) l.invariant.0) in
-    index
-
-pub overflow_cast-i : goal.overflow_cast-i
-overflow_cast-i c = let index : c.lowest-i.result < 64 = let l = c.loop-left in
-    omega (arith, c.lowest-i.ensures, lowest_below l.left (omega arith) l.invariant.0) in
-    omega (arith, index)
+overflow_add-start c =
+    let a = c.args in
+    let l = c.loop-left in
+    let i = c.lowest-i.result in
+    let time : (1 ≤ at a.periods.now i) × (at a.periods.now i < 2 ^ 16) = rw c.lowest-i.ensures (timed_here l.left (omega arith) l.invariant.0 a.periods.now l.invariant.1) in
+    omega (arith, c.gap.ensures, gap_below (at a.periods.now i) a.n (at a.starts.now i) time.0, time)
 
 pub loop-left-smaller : goal.loop-left-smaller
 loop-left-smaller c = let l = c.loop-left in

@@ -7,7 +7,7 @@ use native.Mathlib.Omega.{arith}
 use Rattle.table.proofs.Bytes.{no_slot_yet}
 use Rattle.frames.specs.Frame.{slots_of}
 use Rattle.builder.specs.Parts.{parts_of}
-use Rattle.builder.proofs.Written.{Turn, all_left, turned, written_more}
+use Rattle.builder.proofs.Written.{all_left, turned, written_more}
 use Rattle.builder.proofs.slots.write_slots.Goals as goal
 
 pub loop-i-init : goal.loop-i-init
@@ -15,33 +15,33 @@ loop-i-init c = (omega arith, omega arith, no_slot_yet c.args.buffer.now, all_le
 
 pub overflow_add-n : goal.overflow_add-n
 overflow_add-n c =
-    let below : c.loop-i.i < c.args.t.slots = omega (arith, c.index.ensures.0, c.loop-i-test.true) in
-    let the-turn : Turn (parts_of c.args.periods.now c.args.budgets.now c.args.starts.now c.args.set) c.requires.ready.hosted c.loop-i.n c.loop-i.i c.soonest-x.result = let l = c.loop-i in
-    turned c.args.periods.now c.args.budgets.now c.args.starts.now c.args.set c.args.t c.requires.ready l.n l.i c.soonest-x.result below l.invariant.1 l.invariant.3 c.soonest-x.ensures in
-    let t = the-turn in
-    let r = c.requires.ready in
-    omega (arith, t.fits, r.frame_is, r.small)
-
-pub loop-i-preserved : goal.loop-i-preserved
-loop-i-preserved c =
-    let below : c.loop-i.i < c.args.t.slots = omega (arith, c.index.ensures.0, c.loop-i-test.true) in
-    let the-turn : Turn (parts_of c.args.periods.now c.args.budgets.now c.args.starts.now c.args.set) c.requires.ready.hosted c.loop-i.n c.loop-i.i c.soonest-x.result = let l = c.loop-i in
-    turned c.args.periods.now c.args.budgets.now c.args.starts.now c.args.set c.args.t c.requires.ready l.n l.i c.soonest-x.result below l.invariant.1 l.invariant.3 c.soonest-x.ensures in
-    let t = the-turn in
+    let a = c.args in
     let l = c.loop-i in
     let r = c.requires.ready in
-    let d = c.args.buffer.now in
-    let xs = slots_of (parts_of c.args.periods.now c.args.budgets.now c.args.starts.now c.args.set) in
-    let b = below in (
-      omega arith,
-      omega (arith, t.fits, r.frame_is),
-      c.write_slot.ensures
-          ∙ written_more d xs l.i (omega (arith, r.slots_are)) (omega (arith, c.requires.slots_in_bounds)) c.soonest-x.result l.buffer l.invariant.2 t.before,
-      t.after,
-    )
+    let b : l.i < a.t.slots = omega (arith, c.index.ensures.0, c.loop-i-test.true) in
+    let t = turned a.periods.now a.budgets.now a.starts.now a.set a.t r l.n l.i c.soonest-x.result b l.invariant.1 l.invariant.3 c.soonest-x.ensures in
+    omega (arith, t.fits, r.frame_is, r.small)
 
 pub write_slot-requires-clause-start_le_most_frame : goal.write_slot-requires-clause-start_le_most_frame
 write_slot-requires-clause-start_le_most_frame c =
-    let below : c.loop-i.i < c.args.t.slots = omega (arith, c.index.ensures.0, c.loop-i-test.true) in
+    let a = c.args in
     let l = c.loop-i in
-    (turned c.args.periods.now c.args.budgets.now c.args.starts.now c.args.set c.args.t c.requires.ready l.n l.i c.soonest-x.result below l.invariant.1 l.invariant.3 c.soonest-x.ensures).small
+    let r = c.requires.ready in
+    let b : l.i < a.t.slots = omega (arith, c.index.ensures.0, c.loop-i-test.true) in
+    let t = turned a.periods.now a.budgets.now a.starts.now a.set a.t r l.n l.i c.soonest-x.result b l.invariant.1 l.invariant.3 c.soonest-x.ensures in
+    t.small
+
+pub loop-i-preserved : goal.loop-i-preserved
+loop-i-preserved c =
+    let a = c.args in
+    let l = c.loop-i in
+    let r = c.requires.ready in
+    let b : l.i < a.t.slots = omega (arith, c.index.ensures.0, c.loop-i-test.true) in
+    let t = turned a.periods.now a.budgets.now a.starts.now a.set a.t r l.n l.i c.soonest-x.result b l.invariant.1 l.invariant.3 c.soonest-x.ensures in
+    let xs = slots_of (parts_of a.periods.now a.budgets.now a.starts.now a.set) in (
+      omega arith,
+      omega (arith, t.fits, r.frame_is),
+      c.write_slot.ensures
+          ∙ written_more a.buffer.now xs l.i (omega (arith, r.slots_are)) (omega (arith, c.requires.slots_in_bounds)) c.soonest-x.result l.buffer l.invariant.2 t.before,
+      t.after,
+    )

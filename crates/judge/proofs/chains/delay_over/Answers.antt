@@ -5,14 +5,6 @@ use native.Mathlib.Omega.{arith}
 use Rattle.judge.proofs.Hops.{hops_start, hops_turn, hops_end}
 use Rattle.judge.proofs.chains.delay_over.Goals as goal
 
--- NONEED bounds-1-ticks
--- index-1-ticks : tie.Need-bounds-1-ticks invariant-loop decreases-loop
--- index-1-ticks c = omega (arith, both-on c)
-
--- NONEED bounds-2-ticks
--- index-2-ticks : tie.Need-bounds-2-ticks invariant-loop decreases-loop
--- index-2-ticks c = omega (arith, both-on c)
-
 pub loop-j-init : goal.loop-j-init
 loop-j-init c = (omega arith, omega arith, hops_start _ _ _ _ _ _)
 

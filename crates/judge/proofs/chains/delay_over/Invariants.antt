@@ -5,8 +5,6 @@ use Prim.Native.Nat.{◌+◌, ◌-◌, ◌*◌, ◌^◌, ◌≤◌}
 use Rattle.judge.specs.Constraints.{hops, chain_delay}
 use Rattle.judge.proofs.chains.delay_over.Given as goal
 
--- `judge::chains::delay_over` meets its contract: a loop over the hops. The invariant: what is summed and the hops left make the chain's delay,
--- and each hop is below 2 ^ 34. The measure: the members left. Assumes nothing.
 abbrev pub invariant-loop-j : goal.invariant-loop-j
 invariant-loop-j l =
     (l.j ≤ 16) × (l.total ≤ l.j * 2 ^ 34) ×

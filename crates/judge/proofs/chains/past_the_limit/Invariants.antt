@@ -8,8 +8,6 @@ use Rattle.judge.specs.Places.{fails_from, first_fail}
 use Rattle.judge.specs.Constraints.{c8}
 use Rattle.judge.proofs.chains.past_the_limit.Given as goal
 
--- `judge::chains::past_the_limit` meets its contract: a loop over the chains for C8. The invariant: the first failing place from here on
--- is the first of all. The measure: the places left. Assumes nothing.
 abbrev pub invariant-loop-c : goal.invariant-loop-c
 invariant-loop-c l =
     (l.c ≤ l.count) ×

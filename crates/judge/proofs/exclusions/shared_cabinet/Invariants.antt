@@ -8,8 +8,6 @@ use Rattle.judge.specs.Places.{fails_from, first_fail}
 use Rattle.judge.specs.Constraints.{c7}
 use Rattle.judge.proofs.exclusions.shared_cabinet.Given as goal
 
--- `judge::exclusions::shared_cabinet` meets its contract: a loop over the exclusions for C7. The invariant: the first failing place from here on
--- is the first of all. The measure: the places left. Assumes nothing.
 abbrev pub invariant-loop-x : goal.invariant-loop-x
 invariant-loop-x l =
     (l.x ≤ l.count) ×

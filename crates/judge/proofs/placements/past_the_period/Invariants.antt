@@ -6,8 +6,6 @@ use Rattle.judge.specs.Places.{fails_from, first_fail}
 use Rattle.judge.specs.Constraints.{c3}
 use Rattle.judge.proofs.placements.past_the_period.Given as goal
 
--- `judge::placements::past_the_period` meets its contract: a loop over the partitions for C3. The invariant: the first failing place from here on
--- is the first of all. The measure: the places left. Assumes nothing.
 abbrev pub invariant-loop-i : goal.invariant-loop-i
 invariant-loop-i l = (l.i ≤ l.n) × (fails_from (c3 l.periods l.budgets l.starts) (l.n - l.i) l.i ≡ first_fail (c3 l.periods l.budgets l.starts) l.n)
 

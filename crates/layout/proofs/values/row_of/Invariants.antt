@@ -4,7 +4,6 @@ use Prim.Native.Nat.{◌≤◌, ◌-◌}
 use Rattle.layout.specs.Values.{row_of}
 use Rattle.layout.proofs.values.row_of.Given as goal
 
--- `layout::values::row_of` meets its contract. The loop's invariant: the array is filled up to i. Assumes nothing.
 abbrev pub invariant-loop-j : goal.invariant-loop-j
 invariant-loop-j l = (l.j ≤ l.n) × (l.all ≡ row_of l.b l.at l.j)
 

@@ -6,7 +6,6 @@ use Rattle.model.specs.Decoded.{decoded_chain}
 use Rattle.model.specs.None.{empty_chain}
 use Rattle.model.proofs.decoded.chains_number.Given as goal
 
--- `model::decoded::chains_number` meets its contract. The loop's invariant: what is left to meet is what the whole meets. Assumes nothing.
 abbrev pub invariant-loop-i : goal.invariant-loop-i
 invariant-loop-i l = Passed (λ (j : ℕ). decoded_chain l.n (get_or l.chains j empty_chain)) l.k l.i
 

@@ -4,14 +4,6 @@ use Rattle.numbers.specs.First.{first_hit, first_pass, first_end}
 use Rattle.model.specs.Decoded.{decoded_delays}
 use Rattle.model.proofs.decoded.delays_number.Goals as goal
 
--- NONEED bounds-1-diagonal-rule
--- index-1-diagonal-rule : tie.Need-bounds-1-diagonal-rule invariant-loop decreases-loop
--- index-1-diagonal-rule c = omega arith
-
--- NONEED bounds-2-diagonal-rule
--- index-2-diagonal-rule : tie.Need-bounds-2-diagonal-rule invariant-loop decreases-loop
--- index-2-diagonal-rule c = omega arith
-
 pub returns-then-x-ne0 : goal.returns-then-x-ne0
 unfolding decoded_delays
 returns-then-x-ne0 c = let l = c.loop-i in first_hit _ _ l.i (omega arith) c.diagonal_rule-x.ensures c.if-x-ne0.true l.invariant.1

@@ -6,7 +6,6 @@ use Rattle.numbers.proofs.Passed.{Passed}
 use Rattle.model.specs.Rules.{diagonal_rule}
 use Rattle.model.proofs.decoded.delays_number.Given as goal
 
--- `model::decoded::delays_number` meets its contract. The loop's invariant: what is left to meet is what the whole meets. Assumes nothing.
 abbrev pub invariant-loop-i : goal.invariant-loop-i
 invariant-loop-i l = Passed (λ (k : ℕ). diagonal_rule (get_or (get_or l.delays k []) k 0)) l.n l.i
 

@@ -6,7 +6,6 @@ use Rattle.model.specs.Decoded.{decoded_exclusion}
 use Rattle.model.specs.None.{no_exclusion}
 use Rattle.model.proofs.decoded.exclusions_number.Given as goal
 
--- `model::decoded::exclusions_number` meets its contract. The loop's invariant: what is left to meet is what the whole meets. Assumes nothing.
 abbrev pub invariant-loop-i : goal.invariant-loop-i
 invariant-loop-i l = Passed (λ (j : ℕ). decoded_exclusion l.n (get_or l.exclusions j no_exclusion)) l.k l.i
 

@@ -6,7 +6,6 @@ use Rattle.model.specs.Decoded.{module_large}
 use Rattle.model.specs.None.{no_module}
 use Rattle.model.proofs.decoded.modules_number.Given as goal
 
--- `model::decoded::modules_number` meets its contract. The loop's invariant: what is left to meet is what the whole meets. Assumes nothing.
 abbrev pub invariant-loop-i : goal.invariant-loop-i
 invariant-loop-i l = Passed (λ (k : ℕ). module_large (get_or l.modules k no_module)) l.n l.i
 

@@ -6,7 +6,6 @@ use Rattle.model.specs.Widths.{start_bits}
 use Rattle.model.specs.Decoded.{large}
 use Rattle.model.proofs.fields.starts_number.Given as goal
 
--- `model::fields::starts_number` meets its contract. The loop's invariant: what is left to meet is what the whole meets. Assumes nothing.
 abbrev pub invariant-loop-i : goal.invariant-loop-i
 invariant-loop-i l = Passed (λ (k : ℕ). large start_bits (get_or l.starts k 0)) l.n l.i
 

@@ -10,14 +10,6 @@ use Rattle.sets.proofs.Laws.{set_joins, set_stays}
 use Rattle.sound.proofs.desk.completed.Goals as goal
 use Rattle.sound.proofs.desk.completed.Goals.{then-index-j, else-index-j}
 
--- NONEED bounds-1-index
--- index-1-index : tie.Need-bounds-1-index invariant-loop decreases-loop
--- index-1-index c = omega arith
-
--- NONEED bounds-2-index
--- index-2-index : tie.Need-bounds-2-index invariant-loop decreases-loop
--- index-2-index c = search rules
-
 pub loop-c-init : goal.loop-c-init
 loop-c-init c = (omega arith, unfold sum_below in refl)
 

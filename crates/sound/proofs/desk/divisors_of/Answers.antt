@@ -12,10 +12,17 @@ pub loop-p-init : goal.loop-p-init
 loop-p-init c = (omega arith, sym (filled_none (most_partitions * most_partitions) _ 0))
 
 pub overflow_cast-all : goal.overflow_cast-all
-overflow_cast-all c = let a = c.wide.ensures in let l = c.loop-p in let some = c.requires.1 (l.p / most_partitions) (omega arith) in omega (arith, c.gcd.ensures, a.0, a.1, gcd_at_most_left c.wide.result c.wide-in-loop-p.result (omega (arith, a.0, some)))
+overflow_cast-all c =
+    let a = c.wide.ensures in
+    let some = c.requires.1 (c.loop-p.p / most_partitions) (omega arith) in
+    omega (arith, c.gcd.ensures, a.0, a.1, gcd_at_most_left c.wide.result c.wide-in-loop-p.result (omega (arith, a.0, some)))
 
 pub loop-p-preserved : goal.loop-p-preserved
-loop-p-preserved c = let l = c.loop-p in (omega arith, filled_more (most_partitions * most_partitions) l.p _ 0 l.invariant.1 (c.gcd.ensures ∙ ap₂ gcd_of c.wide.ensures.0 c.wide-in-loop-p.ensures.0) (omega arith))
+loop-p-preserved c =
+    let l = c.loop-p in (
+      omega arith,
+      filled_more (most_partitions * most_partitions) l.p _ 0 l.invariant.1 (c.gcd.ensures ∙ ap₂ gcd_of c.wide.ensures.0 c.wide-in-loop-p.ensures.0) (omega arith),
+    )
 
 pub returns : goal.returns
 unfolding divisors_of

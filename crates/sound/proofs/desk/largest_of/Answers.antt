@@ -10,4 +10,11 @@ unfolding largest
 loop-i-init c = (omega arith, refl)
 
 pub loop-i-preserved : goal.loop-i-preserved
-loop-i-preserved c = let l = c.loop-i in (omega arith, elim c.if-most-x.branch [ then-most-x w ↦ w.most-is ∙ largest_grows c.args.members l.i l.invariant.1 w.if-most-x.true | else-most-x w ↦ w.most-is ∙ largest_stays c.args.members l.i l.invariant.1 w.if-most-x.false ])
+loop-i-preserved c =
+    let l = c.loop-i in (
+      omega arith,
+      elim c.if-most-x.branch [
+        | then-most-x w ↦ w.most-is ∙ largest_grows c.args.members l.i l.invariant.1 w.if-most-x.true
+        | else-most-x w ↦ w.most-is ∙ largest_stays c.args.members l.i l.invariant.1 w.if-most-x.false
+      ],
+    )

@@ -6,14 +6,6 @@ use Rattle.sound.proofs.Tested.{partner_joins, no_partner}
 use Rattle.sound.proofs.desk.partners.Goals as goal
 use Rattle.sound.proofs.desk.partners.Goals.{then-pairs, else-pairs}
 
--- NONEED bounds-1-member
--- index-1-member : tie.Need-bounds-1-member invariant-loop decreases-loop
--- index-1-member c = omega arith
-
--- NONEED bounds-2-member
--- index-2-member : tie.Need-bounds-2-member invariant-loop decreases-loop
--- index-2-member c = search rules
-
 pub loop-x-init : goal.loop-x-init
 loop-x-init c = (omega arith, unfold partners_in in refl)
 

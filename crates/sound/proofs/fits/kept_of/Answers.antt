@@ -1,10 +1,7 @@
 use mathlib.Core.Path.{sym, ◌∙◌}
 use native.Mathlib.Omega.{arith}
-use borrow.Author.Tests.{not-true, not-false}
 use Rattle.sets.specs.Members.{lowest_of}
 use Rattle.sets.proofs.Laws.{each_hit, each_pass, each_of_empty, walk_falls, lowest_below, lowest_is_member, still_member}
-use mathlib.Core.Path.{ap}
-use mathlib.Core.Bool.{not}
 use Rattle.sound.proofs.fits.kept_of.Goals as goal
 
 pub kept_at-requires : goal.kept_at-requires
@@ -13,7 +10,7 @@ kept_at-requires c = let l = c.loop-left in
 
 pub returns-then-not-kept_at : goal.returns-then-not-kept_at
 returns-then-not-kept_at c = let l = c.loop-left in
-    each_hit l.left (omega arith) l.invariant.0 _ c.lowest-c.ensures c.kept_at.ensures l.invariant.2 (not-true _ (ap not c.if-not-kept_at.true))
+    each_hit l.left (omega arith) l.invariant.0 _ c.lowest-c.ensures c.kept_at.ensures l.invariant.2 c.if-not-kept_at.true
 
 pub loop-left-smaller : goal.loop-left-smaller
 loop-left-smaller c = let l = c.loop-left in
@@ -25,7 +22,7 @@ loop-left-preserved c = let l = c.loop-left in
       omega (arith, c.without_lowest-left.ensures, l.invariant.0),
       rw c.without_lowest-left.ensures (λ i h y. l.invariant.1 i h (still_member l.left (omega arith) l.invariant.0 i y)),
       each_pass l.left (omega arith) l.invariant.0 _ c.lowest-c.ensures c.kept_at.ensures l.invariant.2
-          (not-false _ (ap not c.if-not-kept_at.false)) c.without_lowest-left.ensures,
+          c.if-not-kept_at.false c.without_lowest-left.ensures,
     )
 
 pub returns : goal.returns

@@ -4,7 +4,6 @@ use Rattle.numbers.proofs.Passed.{Passed}
 use Rattle.model.specs.Rules.{member_rule}
 use Rattle.model.proofs.records.Chain.rule.Given as goal
 
--- `model::records::Chain::rule` meets its contract. The loop's invariant: what is left to meet is what the whole meets. Assumes nothing.
 abbrev pub invariant-loop-j : goal.invariant-loop-j
 invariant-loop-j l = Passed (member_rule l.n l.members) l.count l.j
 
