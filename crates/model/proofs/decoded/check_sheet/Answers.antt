@@ -4,7 +4,6 @@ use Rattle.numbers.specs.Refusals.{number}
 use Rattle.numbers.specs.declared.Refusal.{Refusal}
 use Rattle.numbers.proofs.Refused.{number_some}
 use Rattle.model.specs.Decoded.{decoded_number, decoded_modules, decoded_delays, decoded_partitions, decoded_exclusions, decoded_chains}
-use Rattle.model.proofs.Fairness.{passed_inside}
 use Rattle.model.proofs.decoded.check_sheet.Goals as goal
 
 -- a part that is passed, and one that is refused
@@ -18,15 +17,9 @@ pub returns-in_err-check : goal.returns-in_err-check
 unfolding decoded_number
 returns-in_err-check c = refused _ _ c.in_err-check.ensures (search rules)
 
-pub each-requires : goal.each-requires
-each-requires c = let inside = passed_inside _ c.in_ok-check.ensures refl in search rules
-
 pub returns-in_err-each : goal.returns-in_err-each
 unfolding decoded_number decoded_modules
 returns-in_err-each c = passed c.in_ok-check.ensures (refused _ _ (c.in_err-each.ensures _ (λ i r h p. search rules)) (search rules))
-
-pub each-requires-2 : goal.each-requires-2
-each-requires-2 c = let inside = passed_inside _ c.in_ok-check.ensures refl in search rules
 
 pub returns-in_err-each-2 : goal.returns-in_err-each-2
 unfolding decoded_number decoded_modules decoded_delays
@@ -34,26 +27,17 @@ returns-in_err-each-2 c =
     passed c.in_ok-check.ensures (passed (c.in_ok-each.ensures _ (λ i r h p. search rules))
     (refused _ _ (c.in_err-each-2.ensures _ (λ i r h p. search rules)) (search rules)))
 
-pub each-requires-3 : goal.each-requires-3
-each-requires-3 c = let inside = passed_inside _ c.in_ok-check.ensures refl in search rules
-
 pub returns-in_err-each-3 : goal.returns-in_err-each-3
 unfolding decoded_number decoded_modules decoded_delays decoded_partitions
 returns-in_err-each-3 c =
     passed c.in_ok-check.ensures (passed (c.in_ok-each.ensures _ (λ i r h p. search rules)) (passed (c.in_ok-each-2.ensures _ (λ i r h p. search rules))
     (refused _ _ (c.in_err-each-3.ensures _ (λ i r h p. search rules)) (search rules))))
 
-pub each-requires-4 : goal.each-requires-4
-each-requires-4 c = let inside = passed_inside _ c.in_ok-check.ensures refl in search rules
-
 pub returns-in_err-each-4 : goal.returns-in_err-each-4
 unfolding decoded_number decoded_modules decoded_delays decoded_partitions decoded_exclusions
 returns-in_err-each-4 c =
     passed c.in_ok-check.ensures (passed (c.in_ok-each.ensures _ (λ i r h p. search rules)) (passed (c.in_ok-each-2.ensures _ (λ i r h p. search rules))
     (passed (c.in_ok-each-3.ensures _ (λ i r h p. search rules)) (refused _ _ (c.in_err-each-4.ensures _ (λ i r h p. search rules)) (search rules)))))
-
-pub each-requires-5 : goal.each-requires-5
-each-requires-5 c = let inside = passed_inside _ c.in_ok-check.ensures refl in search rules
 
 pub returns : goal.returns
 unfolding decoded_number decoded_modules decoded_delays decoded_partitions decoded_exclusions decoded_chains
