@@ -1,16 +1,9 @@
--- `reader::plan::write_plan` meets its contract. Assumes nothing.
-use Rattle.std.proofs.Common.{◌≡◌, refl, ◌∙◌, ◌++◌, ap, arith, replicate, drop, List, ℕ, length, take}
+-- The bytes that `fill` wrote are zeros, and the placements stand over them.
+use Rattle.std.proofs.Common.{◌≡◌, ◌∙◌, ◌++◌, arith, replicate, drop, length, take}
 use Rattle.std.proofs.lemmas.List.{length-take-le}
-use Rattle.reader.specs.Plan.{with_placements, plan_length}
-use Rattle.reader.proofs.Plans.{placements_more, plan_in_front}
+use Rattle.reader.specs.Plan.{plan_length}
+use Rattle.reader.proofs.Plans.{plan_in_front}
 use Rattle.reader.proofs.plan.write_plan.Goals as goal
-
-pub loop-i-init : goal.loop-i-init
-unfolding with_placements
-loop-i-init c = refl
-
-pub loop-i-preserved : goal.loop-i-preserved
-loop-i-preserved c = placements_more _ _ c.loop-i.i _ c.loop-i.invariant c.place.ensures
 
 pub returns : goal.returns
 returns c =
