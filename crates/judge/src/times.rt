@@ -20,8 +20,8 @@ impl Times {
         ensures budgets { result.budgets ≡ budgets_of s.now }
     {
         Times {
-            periods: columns::periods(*s),
-            budgets: columns::budgets(*s),
+            periods: columns::periods(s),
+            budgets: columns::budgets(s),
         }
     }
 }

@@ -1,4 +1,4 @@
-use Rattle.std.proofs.Common.{◌+◌, arith, rules}
+use Rattle.std.proofs.Common.{◌+◌, arith}
 use Rattle.judge.proofs.Hops.{hops_start, hops_turn, hops_end}
 use Rattle.judge.proofs.chains.delay_over.Goals as goal
 

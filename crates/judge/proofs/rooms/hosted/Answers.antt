@@ -1,6 +1,4 @@
 -- The sets are those of the partitions passed.
-use Prim.Native.Nat.{◌<◌}
-use native.Mathlib.Omega.{arith}
 use Rattle.std.proofs.Common.{refl}
 use Rattle.judge.proofs.Hosting.{sets_none, sets_more}
 use Rattle.judge.proofs.rooms.hosted.Goals as goal
