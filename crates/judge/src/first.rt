@@ -40,8 +40,8 @@ pub fn check_each<F: Fn(usize) -> bool, G: Fn(u32) -> Broken>(
     requires named { (i : ℕ) → i < n → G.pre broken i }
     ensures { (number : ℕ) (p : ℕ → Bool) → ((i : ℕ) (b : _) → i < n → F.post keeps i b → b ≡ p i) → ((i : ℕ) (b : _) → i < n → G.post broken i b → broken_as b ≡ broken_there number i) → verdict_of result ≡ broken_at number (first_fail p n) n }
 {
-    match first_fail(n, keeps) {
-        Some(i) => Err(broken(i as u32)),
-        None => Ok(()),
+    if let Some(i) = first_fail(n, keeps) {
+        return Err(broken(i as u32));
     }
+    Ok(())
 }
