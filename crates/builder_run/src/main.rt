@@ -14,7 +14,7 @@ fn partition(period: u32, budget: u32) -> Partition {
     Partition {
         period,
         budget,
-        memory: 0,
+        ..Partition::NONE
     }
 }
 
@@ -25,14 +25,11 @@ fn sheet(partitions: &[Partition]) -> Sheet {
         version: Head::VERSION,
         modules: 1,
         partitions: partitions.len(),
-        exclusions: 0,
-        chains: 0,
-        spare: 0,
+        ..Head::NONE
     };
     sheet.modules[0] = Module {
-        cabinet: 0,
-        memory: 0,
         most: 3,
+        ..Module::NONE
     };
     for (place, partition) in sheet.partitions.iter_mut().zip(partitions) {
         *place = *partition;
@@ -64,11 +61,14 @@ fn misses(table: &[u8]) -> u64 {
     let mut wrong = 0;
     let mut position = Position::fresh();
     for n in 0..TICKS {
-        let moved = table::step_from(table, position);
-        if moved.number != 0 || moved.partition != covering(n) {
+        let Ok(step) = table::step_from(table, position) else {
+            wrong += 1;
+            continue;
+        };
+        if step.partition != covering(n) {
             wrong += 1;
         }
-        position = moved.position;
+        position = step.position;
     }
     wrong
 }
