@@ -1,11 +1,14 @@
--- A loop `for i in sets::members(x)`, whose iterator is the list of what is left: `turn` says that each i is a member, and `each_over`, `sum_over_list`
--- and `of_over` what the whole list, with which the loop begins, stands for.
+-- A loop `for i in sets::members(x)`. In its proof the iterator is the list of the members that are left, in ascending order.
+-- Its invariant says of that list what holds of the whole: `sum_list`, `each_over` and `of_over` turn `in_order x`, with which the loop begins, into
+-- `sum_over`, `each_in` and `members_of`. `turn_below` and `turn_member` say that each i is a member.
+-- All go by `#[tactic(auto, using(..))]`, and `unfolding(sets::specs::Members::every)` where the loop asks something of each.
 -- Assumes nothing.
-use Rattle.std.proofs.Common.{◌≡◌, ◌∙◌, refl, sym, ap, arith, ℕ, zero, suc, ◌+◌, ◌<◌, ◌≤◌, Bool, true, false, cond, List, [], ◌∷◌, ◌++◌, ◌&&◌, map, add-zero, subst}
+use Rattle.std.proofs.Common.{◌≡◌, ◌∙◌, refl, sym, ap, arith, ℕ, zero, suc, ◌+◌, ◌<◌, ◌≤◌, Bool, true, false, cond, List, [], ◌∷◌, length, map, add-zero, subst}
 use Rattle.std.specs.Iterator.{YieldsFirst, Yields}
 use Rattle.std.specs.List.{sum_by}
 use Rattle.std.proofs.lemmas.List.Sums.{sum_by-cons}
-use Rattle.sets.specs.Members.{places, member, sum_below, kept_from, members_of, in_order, every, each_in, sum_over}
+use Rattle.sets.specs.Members.{places, member, sum_below, kept_from, members_of, in_order, every, each_in, sum_over, lowest_of, without_lowest}
+use Rattle.sets.proofs.Laws.{members_of_empty, members_walk}
 use Rattle.sets.proofs.Passing.{sum_first, sum_same}
 
 -- ---- the whole list
@@ -53,6 +56,19 @@ sum_kept g on i (suc k) = go (on i) refl (sum_kept g on (suc i) k) ∙ sym (sum_
 pub sum_list : (g : ℕ → ℕ) (x : ℕ) → sum_by g (in_order x) ≡ sum_over g x
 sum_list g x = sum_kept g (member x) 0 places ∙ sum_same places _ _ _ _ (λ i l. ap (member x) (add-zero i)) (λ i l. ap g (add-zero i))
 
+few_kept : (on : ℕ → Bool) (i k : ℕ) → length (kept_from on (λ j. j) i k) ≤ k
+unfolding kept_from
+few_kept on i zero = omega arith
+few_kept on i (suc k) = go (on i) (few_kept on (suc i) k)
+  where
+    go : (b : Bool) → length (kept_from on (λ j. j) (suc i) k) ≤ k
+        → length (cond b (i ∷ kept_from on (λ j. j) (suc i) k) (kept_from on (λ j. j) (suc i) k)) ≤ suc k
+    go true l = omega arith
+    go false l = omega arith
+
+pub list_small : (x : ℕ) → length (in_order x) ≤ places
+list_small x = few_kept (member x) 0 places
+
 -- ---- one turn: what comes is a member
 abbrev Members : ℕ → List ℕ → Type 0
 Members x [] = Unit {0}
@@ -88,16 +104,9 @@ module _ (x : ℕ) (s xs t : List ℕ) (i : ℕ) (u : List ℕ) where
 pub sum_turn : (g : ℕ → ℕ) {t u : List ℕ} {i : ℕ} → t ≡ i ∷ u → sum_by g t ≡ g i + sum_by g u
 sum_turn g {t} {u} {i} come = rw come (sum_by-cons g i u)
 
--- and a walk that asks f of each answers no where f fails, and goes on where it passes; w is what it answers as a whole
-module _ (f : ℕ → Bool) {t u : List ℕ} {i : ℕ} {b w : Bool} (come : t ≡ i ∷ u) (is : b ≡ f i) (whole : every (map f t) ≡ w) where
-  pub each_stop : b ≡ false → false ≡ w
-  unfolding every
-  each_stop q = let asked : (f i && every (map f u)) ≡ w = rw come at whole in rw (sym is ∙ q) at asked
+-- what the code does at one turn
+pub none_left : (x : ℕ) → x ≡ 0 → in_order x ≡ []
+none_left x e = ap in_order e ∙ members_of_empty (λ i. i)
 
-  pub each_go : b ≡ true → every (map f u) ≡ w
-  unfolding every
-  each_go q = let asked : (f i && every (map f u)) ≡ w = rw come at whole in rw (sym is ∙ q) at asked
-
-pub each_end : (f : ℕ → Bool) {t : List ℕ} {w : Bool} → t ≡ [] → every (map f t) ≡ w → true ≡ w
-unfolding every
-each_end f done whole = rw done at whole
+pub first_left : (x i y : ℕ) → (x ≡ 0 → ⊥) → x < 18446744073709551616 → i ≡ lowest_of x → y ≡ without_lowest x → in_order x ≡ i ∷ in_order y
+first_left x i y some fits first others = rw (first, others) (members_walk x (omega arith) fits (λ i. i))

@@ -1,4 +1,4 @@
--- What one step comes to: "Numeric results are 0 where none is named above", and a number with each.
+-- What one step comes to, of a table's bytes or of a list of slots.
 -- Assumes nothing.
 use Rattle.std.specs.Prelude.{ℕ}
 use Rattle.table.specs.declared.records.Position.{Position}
