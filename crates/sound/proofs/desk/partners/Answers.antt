@@ -7,18 +7,17 @@ use Rattle.sound.proofs.desk.partners.Goals as goal
 use Rattle.sound.proofs.desk.partners.Goals.{then-pairs, else-pairs}
 
 pub loop-x-init : goal.loop-x-init
-loop-x-init c = (omega arith, unfold partners_in in refl)
+unfolding partners_in
+loop-x-init c = refl
 
 pub with-set-requires : goal.with-set-requires
 with-set-requires c = let x = c.loop-x.x in
     let second = second_is _ _ _ x (sym c.pairs.ensures ∙ c.if-pairs.true) in
-    omega (arith, c.requires.2 x c.loop-x-test.true, second, c.member.ensures.0, c.requires.1)
+    omega (arith, c.requires.2 x c.loop-x-test.true, second, c.from.ensures, c.requires.1)
 
 pub loop-x-preserved : goal.loop-x-preserved
-loop-x-preserved c = let l = c.loop-x in (
-  omega arith,
-  elim c.if-pairs.branch [
-    | then-pairs w ↦ w.set-is ∙ partner_joins _ _ _ l.x l.invariant.1 c.pairs.ensures w.if-pairs.true w.member.ensures.0 w.with-set.ensures
-    | else-pairs w ↦ w.set-is ∙ no_partner _ _ _ l.x l.invariant.1 c.pairs.ensures w.if-pairs.false
-  ],
-)
+loop-x-preserved c = let l = c.loop-x in
+    elim c.if-pairs.branch [
+      | then-pairs w ↦ w.set-is ∙ partner_joins _ _ _ l.x l.invariant c.pairs.ensures w.if-pairs.true w.from.ensures w.with-set.ensures
+      | else-pairs w ↦ w.set-is ∙ no_partner _ _ _ l.x l.invariant c.pairs.ensures w.if-pairs.false
+    ]

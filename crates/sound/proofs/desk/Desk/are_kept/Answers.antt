@@ -2,15 +2,15 @@ use mathlib.Core.Path.{sym, ◌∙◌}
 use native.Mathlib.Omega.{arith}
 use Rattle.sets.specs.Members.{lowest_of}
 use Rattle.sets.proofs.Laws.{each_hit, each_pass, each_of_empty, walk_falls, lowest_below, lowest_is_member, still_member}
-use Rattle.sound.proofs.fits.far_from.Goals as goal
+use Rattle.sound.proofs.desk.Desk.are_kept.Goals as goal
 
-pub far_at-requires : goal.far_at-requires
-far_at-requires c = let l = c.loop-left in
-    rw c.lowest-i.ensures (c.requires.0, l.invariant.1 (lowest_of l.left) (lowest_below l.left (omega arith) l.invariant.0) (lowest_is_member l.left (omega arith) l.invariant.0))
+pub is_kept-requires : goal.is_kept-requires
+is_kept-requires c = let l = c.loop-left in
+    rw c.lowest-c.ensures (l.invariant.1 (lowest_of l.left) (lowest_below l.left (omega arith) l.invariant.0) (lowest_is_member l.left (omega arith) l.invariant.0))
 
-pub returns-then-not-far_at : goal.returns-then-not-far_at
-returns-then-not-far_at c = let l = c.loop-left in
-    each_hit l.left (omega arith) l.invariant.0 _ c.lowest-i.ensures c.far_at.ensures l.invariant.2 c.if-not-far_at.true
+pub returns-then-not-is_kept : goal.returns-then-not-is_kept
+returns-then-not-is_kept c = let l = c.loop-left in
+    each_hit l.left (omega arith) l.invariant.0 _ c.lowest-c.ensures c.is_kept.ensures l.invariant.2 c.if-not-is_kept.true
 
 pub loop-left-smaller : goal.loop-left-smaller
 loop-left-smaller c = let l = c.loop-left in
@@ -21,8 +21,8 @@ loop-left-preserved c = let l = c.loop-left in
     let falls = walk_falls l.left (omega arith) l.invariant.0 in (
       omega (arith, c.without_lowest-left.ensures, l.invariant.0),
       rw c.without_lowest-left.ensures (λ i h y. l.invariant.1 i h (still_member l.left (omega arith) l.invariant.0 i y)),
-      each_pass l.left (omega arith) l.invariant.0 _ c.lowest-i.ensures c.far_at.ensures l.invariant.2
-          c.if-not-far_at.false c.without_lowest-left.ensures,
+      each_pass l.left (omega arith) l.invariant.0 _ c.lowest-c.ensures c.is_kept.ensures l.invariant.2
+          c.if-not-is_kept.false c.without_lowest-left.ensures,
     )
 
 pub returns : goal.returns
