@@ -1,7 +1,7 @@
 -- What the search has at hand: what no placement changes, made once a search from the sheet, and the test of one try over it.
 -- The contracts of the inner functions speak of these. That after sound placements the test says whether the plan with one more is sound is
 -- proved (proofs/Judges.antt), so nothing here has to be believed. Assumes nothing.
-use Rattle.std.specs.Prelude.{Bool, cond, not, ◌&&◌, List, [], ℕ, zero, suc, ◌+◌, ◌-◌, leb, ltb, eqb, get_or, replicate}
+use Rattle.std.specs.Prelude.{Bool, cond, max, not, ◌&&◌, List, [], ℕ, zero, suc, ◌+◌, ◌-◌, leb, eqb, get_or, replicate}
 use Rattle.lists.specs.Filled.{filled}
 use Rattle.sets.specs.Members.{set_of, size_of, sum_over, with_member, each_in, disjoint}
 use Rattle.euclid.specs.Euclid.{gcd_of}
@@ -21,7 +21,7 @@ cell rows i k = at (get_or rows i []) k
 -- the largest of the first n members
 unfoldable pub largest : (members : List ℕ) → ℕ → ℕ
 largest members zero = 0
-largest members (suc n) = cond (ltb (largest members n) (at members n)) (at members n) (largest members n)
+largest members (suc n) = max (largest members n) (at members n)
 
 -- a chain is complete when its largest member is placed
 abbrev pub last_of : Chain → ℕ

@@ -9,21 +9,16 @@ ghost use Rattle.sound.specs.Desk.{held_on, room_in, farther, admits_on, clear_w
 ghost use Rattle.sound.specs.Asked.{Divisible, ChainPlaced, Askable, Testable};
 
 use crate::desk::Desk;
+use crate::those::those;
 use judge::chains::delay_over;
-use model::records::{Plan, Sheet};
+use model::records::Plan;
 
 // The set of those of the partitions before j that are on module m.
 pub fn beside(plan: &Plan, m: u32, j: usize) -> u64
     requires { j < most_partitions }
     ensures { result ≡ held_on plan.now.modules m j }
 {
-    let mut set: u64 = 0;
-    for i in 0..j {
-        if plan.modules[i] == m {
-            set = sets::with(set, i);
-        }
-    }
-    set
+    those(j, |i| plan.modules[i] == m)
 }
 
 impl Desk {
