@@ -27,7 +27,7 @@ pub fn over(desk: &Desk, plan: &mut Plan, j: usize, limit: u32, tries: u32) -> O
     ensures { Searched desk.now limit j (begun tries plan.old.modules plan.old.starts) (standing result plan.new) }
 {
     let hosts = desk.sheet.head.modules as u32;
-    let last = desk.periods[j] - desk.budgets[j];
+    let last = desk.times.periods[j] - desk.times.budgets[j];
     let mut k = tries;
     let mut m: u32 = 0;
     while m < hosts {

@@ -63,8 +63,7 @@ desk_of s delays =
     record {
       sheet = s;
       delays = delays;
-      periods = periods_of s;
-      budgets = budgets_of s;
+      times = record { periods = periods_of s; budgets = budgets_of s };
       memories = memories_of s;
       divisors = divisors_of (periods_of s) s.head.partitions;
       apart = partners_of s 0;
@@ -79,7 +78,7 @@ held_on ms m j = set_of (is_on ms m) j
 module _ (d : Desk) where
   -- how many starts partition j has: 0 to T - B
   abbrev pub width_of : ℕ → ℕ
-  width_of j = at d.periods j - at d.budgets j + 1
+  width_of j = at d.times.periods j - at d.times.budgets j + 1
 
   -- C5 and C4 of module m, on which the partitions of a set are
   unfoldable pub room_in : (m set : ℕ) → Bool
@@ -98,12 +97,12 @@ module _ (d : Desk) where
 
   -- C2 of partitions i and j, which share a module
   abbrev pub clear_with : (ts : List ℕ) → (j i : ℕ) → Bool
-  clear_with ts j i = clear_by (cell d.divisors i j) (at ts i) (at d.budgets i) (at ts j) (at d.budgets j)
+  clear_with ts j i = clear_by (cell d.divisors i j) (at ts i) (at d.times.budgets i) (at ts j) (at d.times.budgets j)
 
   -- C8 of chain c
   unfoldable pub kept_at : (ms : List ℕ) → ℕ → Bool
   kept_at ms c =
-      leb (chain_delay d.periods d.budgets d.delays ms (chain_at d.sheet c).members (chain_at d.sheet c).length) (chain_at d.sheet c).limit
+      leb (chain_delay d.times.periods d.times.budgets d.delays ms (chain_at d.sheet c).members (chain_at d.sheet c).length) (chain_at d.sheet c).limit
 
   -- the module of partition j admits it, it is clear of those before it there, and the chains that it completes are kept
   unfoldable pub fits_where : (admitted : Bool) → (ms ts : List ℕ) → ℕ → Bool

@@ -62,9 +62,9 @@ impl Desk {
         overlap::clear(
             self.divisors[i][j],
             plan.starts[i],
-            self.budgets[i],
+            self.times.budgets[i],
             plan.starts[j],
-            self.budgets[j],
+            self.times.budgets[j],
         )
     }
 
@@ -74,16 +74,8 @@ impl Desk {
         requires { ChainPlaced self.now.sheet plan.now.modules c }
         ensures { result ≡ kept_at self.now plan.now.modules c }
     {
-        let chain = self.sheet.chains[c];
-        let delay = delay_over(
-            chain.members,
-            usize::from(chain.length),
-            &self.periods,
-            &self.budgets,
-            &plan.modules,
-            &self.delays,
-        );
-        delay <= u64::from(chain.limit)
+        let chain = &self.sheet.chains[c];
+        delay_over(chain, &self.times, &plan.modules, &self.delays) <= u64::from(chain.limit)
     }
 
     // The placement of partition j fits those of the partitions before it. `held` are those of them that are on its module, and `admitted` says whether

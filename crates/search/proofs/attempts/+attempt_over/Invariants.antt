@@ -19,7 +19,7 @@ invariant-over-loop-t l =
     Cols l.desk.sheet.head.partitions l.hosts (width_of l.desk) (fits_by l.desk) l.limit l.j l.initial.plan.modules l.initial.plan.starts l.initial.k l.plan.modules l.plan.starts l.k l.m l.t
     × (l.held ≡ held_on l.initial.plan.modules l.m l.j)
     × (l.admitted ≡ admits_on l.desk l.initial.plan.modules l.m l.j)
-    × (l.last ≡ get_or l.desk.periods l.j 0 - get_or l.desk.budgets l.j 0)
+    × (l.last ≡ get_or l.desk.times.periods l.j 0 - get_or l.desk.times.budgets l.j 0)
     × (l.t ≤ l.last + 1)
 
 abbrev pub decreases-over-loop-t : goal.decreases-over-loop-t
@@ -27,7 +27,7 @@ decreases-over-loop-t l = l.last + 1 - l.t
 
 abbrev pub invariant-over-loop-m : goal.invariant-over-loop-m
 invariant-over-loop-m l =
-    Rows l.desk.sheet.head.partitions l.hosts (width_of l.desk) (fits_by l.desk) l.limit l.j l.initial.plan.modules l.initial.plan.starts l.initial.k l.plan.modules l.plan.starts l.k l.m × (l.last ≡ get_or l.desk.periods l.j 0 - get_or l.desk.budgets l.j 0)
+    Rows l.desk.sheet.head.partitions l.hosts (width_of l.desk) (fits_by l.desk) l.limit l.j l.initial.plan.modules l.initial.plan.starts l.initial.k l.plan.modules l.plan.starts l.k l.m × (l.last ≡ get_or l.desk.times.periods l.j 0 - get_or l.desk.times.budgets l.j 0)
 
 abbrev pub decreases-over-loop-m : goal.decreases-over-loop-m
 decreases-over-loop-m l = l.hosts - l.m
