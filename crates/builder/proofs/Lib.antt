@@ -1,5 +1,5 @@
 -- The laws of the builder.
-pub mod Turns
+pub mod Found
 pub mod Written
 pub mod Returned
 pub mod Hosted

@@ -6,7 +6,6 @@ ghost use Rattle.frames.specs.Next.{soonest, beyond};
 ghost use Rattle.builder.specs.Parts.{parts_of, nearer};
 ghost use Rattle.builder.specs.Asked.{Timed, Ready};
 
-use judge::widths::index;
 use model::records::Sheet;
 use table::records::{Slot, Table};
 
@@ -16,9 +15,9 @@ fn nearer(best: Slot, start: u32, length: u32, partition: u8) -> Slot
 {
     if start < best.start {
         Slot {
-            start: start,
-            length: length,
-            partition: partition,
+            start,
+            length,
+            partition,
         }
     } else {
         best
@@ -26,7 +25,7 @@ fn nearer(best: Slot, start: u32, length: u32, partition: u8) -> Slot
 }
 
 // The soonest execution from tick n on; its start is the frame where none begins before that.
-#[tactic(auto, using(sets::proofs::Laws::lowest_below))]
+#[tactic(auto, using(sets::proofs::Walks::turn_below, sets::proofs::Walks::of_over), unfolding(frames::specs::Next::soonest))]
 pub fn soonest(
     set: u64,
     starts: &[u32; Sheet::PARTITIONS],
@@ -44,12 +43,9 @@ pub fn soonest(
         length: 0,
         partition: 0,
     };
-    let mut left = set;
-    while left != 0 {
-        let i = sets::lowest(left);
+    for i in sets::members(set) {
         let start = n + overlap::gap(periods[i], n, starts[i]);
         best = nearer(best, start, budgets[i], i as u8);
-        left = sets::without_lowest(left);
     }
     best
 }
@@ -68,12 +64,10 @@ fn write_slots(
     ensures { buffer.new ≡ take head_size buffer.old ++ slots_bytes (slots_of (parts_of periods.now budgets.now starts.now set)) ++ drop (head_size + slot_size * t.slots) buffer.old }
 {
     let mut n: u32 = 0;
-    let mut i: usize = 0;
-    while i < index(t.slots) {
+    for i in 0..t.slots as usize {
         let x = soonest(set, starts, periods, budgets, n, t.frame);
         table::write_slot(buffer, i, x);
         n = x.start + x.length;
-        i += 1;
     }
 }
 

@@ -20,7 +20,7 @@ use Rattle.judge.specs.Verdict.{refused, or_next}
 use Rattle.judge.specs.declared.Answer.{Answer}
 use Rattle.judge.proofs.Stages.{or_pass, or_hit}
 use Rattle.table.specs.Step.{step_number, unless, stepped}
-use Rattle.table.specs.declared.records.Moved.{Moved}
+use Rattle.table.specs.Moved.{Moved}
 use Rattle.table.specs.declared.records.Position.{Position}
 use Rattle.frames.specs.Frame.{Part}
 use Rattle.builder.specs.Built.{returned, left}

@@ -1,106 +1,67 @@
-// What the programs share: files read whole, and numbers written a line at a time.
+// What the programs share: files read whole into a buffer, the argument, and files written.
 #![tactic(auto)]
 
-ghost use Rattle.io.specs.Counts.{IsPrefixLen};
+ghost use Rattle.std.specs.Prelude.{◌≤◌, length, IfSome};
 
-use std::io::{Read, Write};
+use std::io::{Cursor, Read, Write};
 use std::rt::{Env, Files};
 use std::{fs, io, str};
 
 // How many bytes a program reads of a file, or of its argument.
 pub const MOST_BYTES: usize = 4_096;
 
-// The file at `path`, at the front of `buffer`: how many bytes it gave. A missing file reads as empty, and of a longer one than the
-// buffer the front is read: a buffer longer than the longest sheet and plan keeps the answer.
-pub fn load(rt: &impl Files, path: &[u8], buffer: &mut [u8]) -> usize
-    ensures { IsPrefixLen result buffer.new }
+// The file at `path`, as the front of `buffer` that it fills. A missing file reads as empty, and of a longer one than the buffer the
+// front is read: a buffer longer than the longest sheet and plan keeps the answer.
+pub fn load<'a>(rt: &impl Files, path: &str, buffer: &'a mut [u8]) -> &'a [u8]
+    ensures { length result.now ≤ length buffer.old }
 {
-    let Ok(name) = str::from_utf8(path) else {
-        return 0;
-    };
-    match fs::open(rt, name) {
+    match fs::open(rt, path) {
         Ok(mut file) => read_full(&mut file, buffer),
-        Err(_) => 0,
+        Err(_) => &[],
     }
 }
 
-// Reads until the buffer is full, the file ends or a read fails: how many bytes it put at the front of the buffer.
-fn read_full(file: &mut impl Read, buffer: &mut [u8]) -> usize
-    ensures { IsPrefixLen result buffer.new }
+// Reads until the buffer is full, the file ends or a read fails: the bytes that it put at the front of the buffer.
+fn read_full<'a>(file: &mut impl Read, buffer: &'a mut [u8]) -> &'a [u8]
+    ensures { length result.now ≤ length buffer.old }
 {
     let mut done = 0;
+    // Kept: it counts bytes, not turns, and `io::copy` would go on after a read that a signal interrupts, which here ends the file.
     while done < buffer.len() {
-        let n = file.read(&mut buffer[done..]).unwrap_or(0);
-        if n == 0 {
-            break;
+        match file.read(&mut buffer[done..]) {
+            Ok(n) if n > 0 => done += n,
+            _ => break,
         }
-        done += n;
     }
-    done
-}
-
-// Two numbers on a line of standard output. An error is that of the write that failed, and part of the line may be written.
-pub fn print_two(rt: &impl Print, a: u64, b: u64) -> io::Result<()> {
-    println!(rt; "{a} {b}")
-}
-
-// Three numbers on a line, as `print_two`.
-pub fn print_three(rt: &impl Print, a: u64, b: u64, c: u64) -> io::Result<()> {
-    println!(rt; "{a} {b} {c}")
-}
-
-// Four numbers on a line, as `print_two`.
-pub fn print_four(rt: &impl Print, a: u64, b: u64, c: u64, d: u64) -> io::Result<()> {
-    println!(rt; "{a} {b} {c} {d}")
+    &buffer[..done]
 }
 
 // Writes the bytes to the file at `path`, made or emptied first; where that fails, a line on standard error says why.
 pub fn save(rt: &(impl Files + Eprint), path: &[u8], bytes: &[u8]) {
-    let said = match str::from_utf8(path) {
-        Ok(name) => match fs::write(rt, name, bytes) {
-            Ok(()) => Ok(()),
-            Err(error) => eprintln!(rt; "{name}: {error}"),
-        },
+    // Where standard error takes no line there is nowhere left to say so.
+    let _ = match str::from_utf8(path) {
+        Ok(name) => { fs::write(rt, name, bytes).or_else(|error| eprintln!(rt; "{name}: {error}")) }
         Err(error) => eprintln!(rt; "{}: {error}", path.escape_ascii()),
     };
-    // Where standard error takes no line there is nowhere left to say so.
-    drop(said);
 }
 
-// The program's first argument, at the front of `path`: its length, or 0 where there is none or it does not fit.
-pub fn argument(rt: &impl Env, path: &mut [u8]) -> usize
-    ensures { IsPrefixLen result path.new }
+// The program's first argument, in `buffer`; None where there is none, it is empty or it does not fit.
+pub fn argument<'a>(rt: &impl Env, buffer: &'a mut [u8]) -> Option<&'a [u8]>
+    ensures { IfSome result (λ path. length path.now ≤ length buffer.old) }
 {
-    let n = rt.arg(1, path).unwrap_or(0);
-    at_most(n, path)
+    match rt.arg(1, buffer) {
+        Ok(n) if n > 0 => Some(&buffer[..n]),
+        _ => None,
+    }
 }
 
-// n, or the buffer's length where n is larger: a count of bytes that the buffer has.
-pub fn at_most(n: usize, buffer: &[u8]) -> usize
-    ensures { IsPrefixLen result buffer.now }
+// The prefix with the module's number in two digits and `.bin` behind it, in `buffer`; None where that does not fit.
+pub fn table_path<'a>(prefix: &[u8], module: usize, buffer: &'a mut [u8]) -> Option<&'a [u8]>
+    ensures { IfSome result (λ path. length path.now ≤ length buffer.old) }
 {
-    if n < buffer.len() { n } else { buffer.len() }
-}
-
-// Behind the first n bytes of `path` the module's number in two digits and `.bin`: the length of the whole, or 0 where n is 0 or it
-// does not fit.
-pub fn name_table(path: &mut [u8], n: usize, module: usize) -> usize
-    ensures { IsPrefixLen result path.new }
-{
-    if n == 0 {
-        return 0;
-    }
-    if path.len() < 6 {
-        return 0;
-    }
-    if path.len() - 6 < n {
-        return 0;
-    }
-    path[n] = 48 + (module / 10 % 10) as u8;
-    path[n + 1] = 48 + (module % 10) as u8;
-    path[n + 2] = b'.';
-    path[n + 3] = b'b';
-    path[n + 4] = b'i';
-    path[n + 5] = b'n';
-    n + 6
+    let mut path = Cursor::new(&mut *buffer);
+    path.write_all(prefix).ok()?;
+    write!(path, "{module:02}.bin").ok()?;
+    let written = path.position() as usize;
+    buffer.get(..written)
 }

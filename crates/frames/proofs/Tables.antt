@@ -9,7 +9,7 @@ use lib.Dec.{eqb}
 use lib.ListN.{length}
 use Rattle.table.specs.declared.records.Slot.{Slot}
 use Rattle.table.specs.declared.records.Position.{Position}
-use Rattle.table.specs.declared.records.Moved.{Moved}
+use Rattle.table.specs.Moved.{Moved}
 use Rattle.table.specs.Layout.{most_frame, most_slots, table_of, slots_in, table_bytes}
 use Rattle.table.specs.Slots.{Fit, moved}
 use Rattle.table.specs.Sound.{SoundTable}

@@ -4,10 +4,10 @@
 use std::io;
 
 fn main(rt: HostRuntime) -> io::Result<()> {
-    let mut sheet = [0u8; files::MOST_BYTES];
-    let m = files::load(&rt, b"sheet.bin", &mut sheet);
-    let mut plan = [0u8; files::MOST_BYTES];
-    let n = files::load(&rt, b"plan.bin", &mut plan);
-    let a = ghozrembu::judge(&sheet[..m], &plan[..n]);
-    files::print_three(&rt, a.number as u64, a.first as u64, a.second as u64)
+    let mut sheet_bytes = [0u8; files::MOST_BYTES];
+    let sheet = files::load(&rt, "sheet.bin", &mut sheet_bytes);
+    let mut plan_bytes = [0u8; files::MOST_BYTES];
+    let plan = files::load(&rt, "plan.bin", &mut plan_bytes);
+    let answer = ghozrembu::judge(sheet, plan);
+    println!(rt; "{} {} {}", answer.number, answer.first, answer.second)
 }

@@ -23,5 +23,5 @@ pub fn clear(g: u32, t: u32, b: u32, u: u32, c: u32) -> bool
     ensures { result ≡ clear_by g t b u c }
 {
     let d = gap(g, t, u);
-    if b <= d { c <= g - d } else { false }
+    b <= d && c <= g - d
 }

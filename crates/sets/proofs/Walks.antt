@@ -3,7 +3,7 @@
 -- `sum_over`, `each_in` and `members_of`. `turn_below` and `turn_member` say that each i is a member.
 -- All go by `#[tactic(auto, using(..))]`, and `unfolding(sets::specs::Members::every)` where the loop asks something of each.
 -- Assumes nothing.
-use Rattle.std.proofs.Common.{◌≡◌, ◌∙◌, refl, sym, ap, arith, ℕ, zero, suc, ◌+◌, ◌<◌, ◌≤◌, Bool, true, false, cond, List, [], ◌∷◌, map, add-zero, subst}
+use Rattle.std.proofs.Common.{◌≡◌, ◌∙◌, refl, sym, ap, arith, ℕ, zero, suc, ◌+◌, ◌<◌, ◌≤◌, Bool, true, false, cond, List, [], ◌∷◌, length, map, add-zero, subst}
 use Rattle.std.specs.Iterator.{YieldsFirst, Yields}
 use Rattle.std.specs.List.{sum_by}
 use Rattle.std.proofs.lemmas.List.Sums.{sum_by-cons}
@@ -55,6 +55,19 @@ sum_kept g on i (suc k) = go (on i) refl (sum_kept g on (suc i) k) ∙ sym (sum_
 
 pub sum_list : (g : ℕ → ℕ) (x : ℕ) → sum_by g (in_order x) ≡ sum_over g x
 sum_list g x = sum_kept g (member x) 0 places ∙ sum_same places _ _ _ _ (λ i l. ap (member x) (add-zero i)) (λ i l. ap g (add-zero i))
+
+few_kept : (on : ℕ → Bool) (i k : ℕ) → length (kept_from on (λ j. j) i k) ≤ k
+unfolding kept_from
+few_kept on i zero = omega arith
+few_kept on i (suc k) = go (on i) (few_kept on (suc i) k)
+  where
+    go : (b : Bool) → length (kept_from on (λ j. j) (suc i) k) ≤ k
+        → length (cond b (i ∷ kept_from on (λ j. j) (suc i) k) (kept_from on (λ j. j) (suc i) k)) ≤ suc k
+    go true l = omega arith
+    go false l = omega arith
+
+pub list_small : (x : ℕ) → length (in_order x) ≤ places
+list_small x = few_kept (member x) 0 places
 
 -- ---- one turn: what comes is a member
 abbrev Members : ℕ → List ℕ → Type 0

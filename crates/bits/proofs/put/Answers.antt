@@ -13,17 +13,14 @@ pub loop-i-preserved : goal.loop-i-preserved
 unfolding put_bit
 loop-i-preserved c = let a = c.args in
     let q = (a.at + c.loop-i.i) / 8 in (
-      omega arith,
-      (
-        length-set c.loop-i.d q c.with_bit-w.result ∙ c.loop-i.invariant.1.0,
-        ap (λ (w : ℕ). put_field (set c.loop-i.d q w) (a.at + (c.loop-i.i + 1)) (a.n - (c.loop-i.i + 1)) a.v)
-            (c.with_bit-w.ensures ∙ ap (with_bit (get_or c.loop-i.d q 0) (7 - (a.at + c.loop-i.i) % 8)) (last_bit _))
-            ∙ sym (put_next c.loop-i.d a.at a.n a.v c.loop-i.i (omega arith)) ∙ c.loop-i.invariant.1.1,
-      ),
+      length-set c.loop-i.d q c.with_bit.result ∙ c.loop-i.invariant.0,
+      ap (λ (w : ℕ). put_field (set c.loop-i.d q w) (a.at + (c.loop-i.i + 1)) (a.n - (c.loop-i.i + 1)) a.v)
+          (c.with_bit.ensures ∙ ap (with_bit (get_or c.loop-i.d q 0) (7 - (a.at + c.loop-i.i) % 8)) (last_bit _))
+          ∙ sym (put_next c.loop-i.d a.at a.n a.v c.loop-i.i (omega arith)) ∙ c.loop-i.invariant.1,
     )
 
 pub returns : goal.returns
 unfolding put_field
 returns c = let a = c.args in
     let z : a.n - c.loop-i.i ≡ 0 = omega arith in
-    sym (ap (λ (j : ℕ). put_field c.loop-i.d (a.at + c.loop-i.i) j a.v) z) ∙ c.loop-i.invariant.1.1
+    sym (ap (λ (j : ℕ). put_field c.loop-i.d (a.at + c.loop-i.i) j a.v) z) ∙ c.loop-i.invariant.1

@@ -1,6 +1,7 @@
 -- `overlap::clear` meets its contract: d is below g, so g - d is a number, and c <= g - d asks what d + c <= g asks.
 -- Assumes nothing.
-use mathlib.Core.Path.{sym}
+use mathlib.Core.Path.{sym, ◌∙◌}
+use borrow.Author.Tests.{lt-leb}
 use native.Mathlib.Omega.{arith}
 use Rattle.overlap.proofs.Residues.{gap_at_most}
 use Rattle.overlap.proofs.Answers.{second_decides, no_by_first}
@@ -16,4 +17,4 @@ returns-then-b-d c = let a = c.args in
 pub returns-else-b-d : goal.returns-else-b-d
 returns-else-b-d c = let a = c.args in
     let e = c.gap-d.ensures in
-    sym (no_by_first a.g a.t a.b a.u a.c (omega arith))
+    lt-leb _ _ (omega arith) ∙ sym (no_by_first a.g a.t a.b a.u a.c (omega arith))

@@ -11,15 +11,15 @@ use Rattle.builder.proofs.Written.{all_left, turned, written_more}
 use Rattle.builder.proofs.slots.write_slots.Goals as goal
 
 pub loop-i-init : goal.loop-i-init
-loop-i-init c = (omega arith, omega arith, no_slot_yet c.args.buffer.now, all_left (parts_of c.args.periods.now c.args.budgets.now c.args.starts.now c.args.set))
+loop-i-init c = (omega arith, no_slot_yet c.args.buffer.now, all_left (parts_of c.args.periods.now c.args.budgets.now c.args.starts.now c.args.set))
 
 pub overflow_add-n : goal.overflow_add-n
 overflow_add-n c =
     let a = c.args in
     let l = c.loop-i in
     let r = c.requires.ready in
-    let b : l.i < a.t.slots = omega (arith, c.index.ensures.0, c.loop-i-test.true) in
-    let t = turned a.periods.now a.budgets.now a.starts.now a.set a.t r l.n l.i c.soonest-x.result b l.invariant.1 l.invariant.3 c.soonest-x.ensures in
+    let b : l.i < a.t.slots = c.loop-i-test.true in
+    let t = turned a.periods.now a.budgets.now a.starts.now a.set a.t r l.n l.i c.soonest-x.result b l.invariant.0 l.invariant.2 c.soonest-x.ensures in
     omega (arith, t.fits, r.frame_is, r.small)
 
 pub write_slot-requires-clause-start_le_most_frame : goal.write_slot-requires-clause-start_le_most_frame
@@ -27,8 +27,8 @@ write_slot-requires-clause-start_le_most_frame c =
     let a = c.args in
     let l = c.loop-i in
     let r = c.requires.ready in
-    let b : l.i < a.t.slots = omega (arith, c.index.ensures.0, c.loop-i-test.true) in
-    let t = turned a.periods.now a.budgets.now a.starts.now a.set a.t r l.n l.i c.soonest-x.result b l.invariant.1 l.invariant.3 c.soonest-x.ensures in
+    let b : l.i < a.t.slots = c.loop-i-test.true in
+    let t = turned a.periods.now a.budgets.now a.starts.now a.set a.t r l.n l.i c.soonest-x.result b l.invariant.0 l.invariant.2 c.soonest-x.ensures in
     t.small
 
 pub loop-i-preserved : goal.loop-i-preserved
@@ -36,12 +36,11 @@ loop-i-preserved c =
     let a = c.args in
     let l = c.loop-i in
     let r = c.requires.ready in
-    let b : l.i < a.t.slots = omega (arith, c.index.ensures.0, c.loop-i-test.true) in
-    let t = turned a.periods.now a.budgets.now a.starts.now a.set a.t r l.n l.i c.soonest-x.result b l.invariant.1 l.invariant.3 c.soonest-x.ensures in
+    let b : l.i < a.t.slots = c.loop-i-test.true in
+    let t = turned a.periods.now a.budgets.now a.starts.now a.set a.t r l.n l.i c.soonest-x.result b l.invariant.0 l.invariant.2 c.soonest-x.ensures in
     let xs = slots_of (parts_of a.periods.now a.budgets.now a.starts.now a.set) in (
-      omega arith,
       omega (arith, t.fits, r.frame_is),
       c.write_slot.ensures
-          ∙ written_more a.buffer.now xs l.i (omega (arith, r.slots_are)) (omega (arith, c.requires.slots_in_bounds)) c.soonest-x.result l.buffer l.invariant.2 t.before,
+          ∙ written_more a.buffer.now xs l.i (omega (arith, r.slots_are)) (omega (arith, c.requires.slots_in_bounds)) c.soonest-x.result l.buffer l.invariant.1 t.before,
       t.after,
     )

@@ -2,7 +2,7 @@
 -- slots left.
 -- Assumes nothing.
 use mathlib.Core.Path.{◌≡◌}
-use Prim.Native.Nat.{◌-◌, ◌≤◌}
+use Prim.Native.Nat.{◌≤◌}
 use lib.ListN.{drop}
 use Rattle.frames.specs.Frame.{slots_of}
 use Rattle.builder.specs.Parts.{parts_of}
@@ -10,7 +10,4 @@ use Rattle.builder.proofs.Written.{left_from, written}
 use Rattle.builder.proofs.slots.write_slots.Given as goal
 
 abbrev pub invariant-loop-i : goal.invariant-loop-i
-invariant-loop-i l = (l.i ≤ l.t.slots) × (l.n ≤ l.t.frame) × (l.buffer ≡ written l.initial.buffer (slots_of (parts_of l.periods l.budgets l.starts l.set)) l.i) × (left_from (parts_of l.periods l.budgets l.starts l.set) l.n ≡ drop l.i (slots_of (parts_of l.periods l.budgets l.starts l.set)))
-
-abbrev pub decreases-loop-i : goal.decreases-loop-i
-decreases-loop-i l = l.t.slots - l.i
+invariant-loop-i l = (l.n ≤ l.t.frame) × (l.buffer ≡ written l.initial.buffer (slots_of (parts_of l.periods l.budgets l.starts l.set)) l.i) × (left_from (parts_of l.periods l.budgets l.starts l.set) l.n ≡ drop l.i (slots_of (parts_of l.periods l.budgets l.starts l.set)))

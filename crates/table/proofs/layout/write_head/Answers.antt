@@ -12,6 +12,6 @@ pub returns : goal.returns
 returns c = let d = c.args.d.now in
     let F = c.args.t.frame in
     let n = c.args.t.slots in
-    c.put-3.ensures
-    ∙ ap (λ (s : List ℕ). put_field s 35 5 0) (c.put-2.ensures ∙ ap (λ (s : List ℕ). put_field s 24 11 n) c.put.ensures)
-    ∙ head_written d F n (λ j. omega (arith, c.slice_known-1.given j)) c.requires.head_size_in_bounds c.requires.frame_le_most_frame.0 c.requires.frame_le_most_frame.1
+    head_written d F n
+    (c.put-3.ensures ∙ ap (λ (s : List ℕ). put_field s 35 5 0) (c.put-2.ensures ∙ ap (λ (s : List ℕ). put_field s 24 11 n) c.put.ensures))
+    (λ j. omega (arith, c.type_inv.d j)) c.requires.head_size_in_bounds c.requires.frame_le_most_frame.0 c.requires.frame_le_most_frame.1

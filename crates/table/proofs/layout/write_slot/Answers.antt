@@ -17,11 +17,14 @@ returns c = let d = c.args.d.now in
     let k = 5 + 6 * i in
     let at : c.slot_bit-at.result ≡ 8 * k = omega (arith, c.slot_bit-at.ensures) in
     let on : k + 6 ≡ 5 + 6 * (i + 1) = omega arith in
-    c.put-4.ensures
+    slot_written d k x
+    (c.put-4.ensures
     ∙ ap (λ (s : List ℕ). put_field s (c.slot_bit-at.result + 46) 2 0)
     (c.put-3.ensures
+    ∙ ap (λ (p : ℕ). put_field c.put-2.new.d (c.slot_bit-at.result + 40) 6 p) c.from.ensures
     ∙ ap (λ (s : List ℕ). put_field s (c.slot_bit-at.result + 40) 6 x.partition)
     (c.put-2.ensures ∙ ap (λ (s : List ℕ). put_field s (c.slot_bit-at.result + 24) 16 x.length) c.put.ensures))
-    ∙ ap (λ (a : ℕ). put_field (put_field (put_field (put_field d a 24 x.start) (a + 24) 16 x.length) (a + 40) 6 x.partition) (a + 46) 2 0) at
-    ∙ slot_written d k x (λ j. omega (arith, c.slice_known-1.given j)) (omega (arith, c.requires.i_lt_most_slots.1)) c.requires.start_le_most_frame.0 c.requires.start_le_most_frame.1 c.requires.start_le_most_frame.2
+    ∙ ap (λ (a : ℕ). put_field (put_field (put_field (put_field d a 24 x.start) (a + 24) 16 x.length) (a + 40) 6 x.partition) (a + 46) 2 0) at)
+    (λ j. omega (arith, c.type_inv.d j)) (omega (arith, c.requires.i_lt_most_slots.1))
+    c.requires.start_le_most_frame.0 c.requires.start_le_most_frame.1 c.requires.start_le_most_frame.2
     ∙ ap (λ (m : ℕ). take k d ++ slot_bytes x ++ drop m d) on
