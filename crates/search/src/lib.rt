@@ -8,10 +8,12 @@ ghost use Rattle.search.specs.Answer.{found_of, buffer_after};
 pub mod attempts;
 pub mod run;
 
+use crate::attempts::{Course, End};
 use crate::run::run;
 use model::decoded::sheet_number;
-use model::records::{Plan, Sheet};
+use model::records::Sheet;
 use reader::plan::{length_of, write_plan};
+use std::ops::ControlFlow;
 
 // What the search answers: its number (0 found, 26 no plan, 27 stopped, or that of a refusal) and the tries made.
 #[repr(C)]
@@ -46,23 +48,17 @@ pub fn search(
             tries: 0,
         };
     }
-    let mut plan = Plan::none();
-    let o = run(&s, &d, budget, &mut plan);
-    if o.found {
-        write_plan(&plan.modules, &plan.starts, n, buffer);
-        return Found {
-            number: numbers::FINE,
-            tries: o.tries,
-        };
-    }
-    if o.stopped {
-        return Found {
-            number: numbers::STOPPED,
-            tries: o.tries,
-        };
-    }
+    let mut course = Course::empty();
+    let number = match run(&s, &d, budget, &mut course) {
+        ControlFlow::Break(End::Found) => {
+            write_plan(&course.plan.modules, &course.plan.starts, n, buffer);
+            numbers::FINE
+        }
+        ControlFlow::Break(End::Stopped) => numbers::STOPPED,
+        ControlFlow::Continue(()) => numbers::NO_PLAN,
+    };
     Found {
-        number: numbers::NO_PLAN,
-        tries: o.tries,
+        number,
+        tries: course.tries,
     }
 }

@@ -2,23 +2,23 @@
 ghost use Rattle.std.specs.Prelude.{◌≡◌, ◌≤◌, length};
 ghost use Rattle.model.specs.Limits.{most_partitions};
 ghost use Rattle.model.specs.Decoded.{decoded_number};
-ghost use Rattle.search.specs.Standing.{standing, Ran};
+ghost use Rattle.search.specs.Standing.{standing, nothing_placed, Ran};
 
-use crate::attempts::{Outcome, over};
-use model::records::{Plan, Sheet};
+use crate::attempts::{Course, End, over};
+use model::records::Sheet;
 use sound::desk::Desk;
+use std::ops::ControlFlow;
 
-// The search of a sheet whose number is 0. Where a plan is found it stands in the two columns.
+// The search of a sheet whose number is 0. Where a plan is found it stands in the course.
 pub fn run(
     s: &Sheet,
     d: &[[u16; Sheet::MODULES]; Sheet::MODULES],
     budget: u32,
-    plan: &mut Plan,
-) -> Outcome
+    course: &mut Course,
+) -> ControlFlow<End>
     requires d_value { decoded_number s.now d.now ≡ 0 }
-    requires most_partitions_in_bounds { (most_partitions ≤ length plan.old.modules) × (most_partitions ≤ length plan.old.starts) }
-    ensures { Ran s.now d.now budget (standing result plan.new) }
+    requires empty { course.old ≡ nothing_placed }
+    ensures { Ran s.now d.now budget (standing result course.new) }
 {
-    let made: u32 = 0;
-    over(&Desk::of(s, d), plan, 0, budget, made)
+    over(&Desk::of(s, d), budget, course, 0)
 }
