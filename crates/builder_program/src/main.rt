@@ -44,9 +44,10 @@ fn print_module(
     if built.number != 0 {
         return println!(rt; "{module} {} 0 0", built.number);
     }
-    print_table(rt, &table, module)?;
-    // No table is longer than that, which `build` does not promise.
-    save_table(rt, &table[..built.length.min(TABLE_BYTES)], module);
+    // No table is longer than the buffer, which `build` does not promise.
+    let table = &table[..built.length.min(TABLE_BYTES)];
+    print_table(rt, table, module)?;
+    save_table(rt, table, module);
     Ok(())
 }
 

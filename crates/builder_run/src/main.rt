@@ -75,14 +75,14 @@ fn misses(table: &[u8]) -> u64 {
 
 fn main(rt: HostRuntime) -> io::Result<()> {
     let delays = [[0u16; Sheet::MODULES]; Sheet::MODULES];
-    let mut buffer = [0u8; 8192];
-    let many = sheet(&[partition(2, 1), partition(4096, 1)]);
+    let mut buffer = [0u8; 8_192];
+    let many = sheet(&[partition(2, 1), partition(4_096, 1)]);
     let full = builder::build(many, delays, plan(&[0, 1]), 0, &mut buffer);
     println!(rt; "{} {}", full.number, full.length)?;
     let long = sheet(&[
-        partition(65280, 30),
-        partition(65280, 30),
-        partition(32896, 40),
+        partition(65_280, 30),
+        partition(65_280, 30),
+        partition(32_896, 40),
     ]);
     let built = builder::build(long, delays, plan(&[0, 30, 60]), 0, &mut buffer);
     println!(rt; "{} {}", built.number, built.length)?;

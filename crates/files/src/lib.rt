@@ -40,7 +40,7 @@ fn read_full<'a>(file: &mut impl Read, buffer: &'a mut [u8]) -> &'a [u8]
 pub fn save(rt: &(impl Files + Eprint), path: &[u8], bytes: &[u8]) {
     // Where standard error takes no line there is nowhere left to say so.
     let _ = match str::from_utf8(path) {
-        Ok(name) => { fs::write(rt, name, bytes).or_else(|error| eprintln!(rt; "{name}: {error}")) }
+        Ok(name) => fs::write(rt, name, bytes).or_else(|error| eprintln!(rt; "{name}: {error}")),
         Err(error) => eprintln!(rt; "{}: {error}", path.escape_ascii()),
     };
 }

@@ -1,35 +1,32 @@
--- `judge::judge` meets its contract: a sheet's number, then a start's, stops it. Where the sheet's number is 0 the sheet is fair, which is what
--- the constraints ask. Assumes nothing.
-use mathlib.Core.Path.{◌∙◌, ap}
-use Rattle.model.proofs.Fairness.{fair_where}
-use Rattle.judge.specs.Verdict.{refused, judged}
-use Rattle.judge.proofs.Stages.{or_stop, or_go}
+-- A sheet's number, then a start's, stops it. Where the sheet's number is 0 the sheet is fair, which is what the constraints ask.
+use Rattle.std.proofs.Common.{rules, sym}
+use Rattle.model.proofs.Fairness.{number_fair}
+use Rattle.judge.specs.Verdict.{judged}
+use Rattle.judge.proofs.Stages.{or_refused, or_fine, or_failed}
 use Rattle.judge.proofs.Parts.{ready, verdict_by}
 use Rattle.judge.proofs.judge.Goals as goal
 
-pub returns-then-number-ne0 : goal.returns-then-number-ne0
+pub returns-in_err-check_sheet : goal.returns-in_err-check_sheet
 unfolding judged
-returns-then-number-ne0 c = c.refused.ensures ∙ or_stop _ (ap refused c.sheet_number-number.ensures) c.if-number-ne0.true
+returns-in_err-check_sheet c = search (rules, or_refused c.in_err-check_sheet.field-0.0)
 
-pub starts_number-large-requires : goal.starts_number-large-requires
-starts_number-large-requires c = (fair_where _ _ c.sheet_number-number.ensures c.if-number-ne0.false).head.inside.partitions
+pub check_starts-requires : goal.check_starts-requires
+check_starts-requires c = (number_fair _ _ (sym c.in_ok-check_sheet.ensures)).head.inside.partitions
 
-pub returns-then-large-ne0 : goal.returns-then-large-ne0
+pub returns-in_err-check_starts : goal.returns-in_err-check_starts
 unfolding judged
-returns-then-large-ne0 c = or_go (ap refused c.sheet_number-number.ensures) c.if-number-ne0.false
-    (c.refused-then-large-ne0.ensures ∙ or_stop _ (ap refused c.starts_number-large.ensures) c.if-large-ne0.true)
+returns-in_err-check_starts c = search (rules, or_fine, or_refused c.in_err-check_starts.field-0.0)
 
-pub periods-periods-requires : goal.periods-periods-requires
-periods-periods-requires c = (fair_where _ _ c.sheet_number-number.ensures c.if-number-ne0.false).head.inside.partitions
-
-pub budgets-budgets-requires : goal.budgets-budgets-requires
-budgets-budgets-requires c = (fair_where _ _ c.sheet_number-number.ensures c.if-number-ne0.false).head.inside.partitions
+pub of-requires : goal.of-requires
+of-requires c = (number_fair _ _ (sym c.in_ok-check_sheet.ensures)).head.inside.partitions
 
 pub constraints-requires : goal.constraints-requires
-constraints-requires c = ready _ _ (fair_where _ _ c.sheet_number-number.ensures c.if-number-ne0.false) c.periods-periods.ensures
+constraints-requires c = ready _ _ (number_fair _ _ (sym c.in_ok-check_sheet.ensures)) c.of.ensures.periods
+
+pub returns-in_err-constraints : goal.returns-in_err-constraints
+unfolding judged
+returns-in_err-constraints c = search (rules, or_fine, verdict_by, or_failed c.in_err-constraints.field-0.0)
 
 pub returns : goal.returns
 unfolding judged
-returns c = or_go (ap refused c.sheet_number-number.ensures) c.if-number-ne0.false
-    (or_go (ap refused c.starts_number-large.ensures) c.if-large-ne0.false
-    (verdict_by _ _ _ _ c.constraints.ensures c.periods-periods.ensures c.budgets-budgets.ensures))
+returns c = search (rules, or_fine, verdict_by)
