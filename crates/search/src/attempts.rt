@@ -44,7 +44,7 @@ pub fn over(desk: &Desk, limit: u32, course: &mut Course, j: usize) -> ControlFl
     requires { Ready desk.now course.old.plan.modules j }
     ensures { Searched desk.now limit j (under_way course.old) (standing result course.new) }
 {
-    let last = desk.periods[j] - desk.budgets[j];
+    let last = desk.times.periods[j] - desk.times.budgets[j];
     for m in 0..desk.sheet.head.modules as u32 {
         let held = beside(&course.plan, m, j);
         let admitted = desk.admits(&course.plan, m, held, j);

@@ -1,7 +1,7 @@
 -- What the search has at hand: what no placement changes, made once a search from the sheet, and the test of one try over it.
 -- The contracts of the inner functions speak of these. That after sound placements the test says whether the plan with one more is sound is
 -- proved (proofs/Judges.antt), so nothing here has to be believed. Assumes nothing.
-use Rattle.std.specs.Prelude.{Bool, cond, not, ◌&&◌, List, [], ℕ, zero, suc, ◌+◌, ◌-◌, leb, ltb, eqb, get_or, replicate}
+use Rattle.std.specs.Prelude.{Bool, cond, max, not, ◌&&◌, List, [], ℕ, zero, suc, ◌+◌, ◌-◌, leb, eqb, get_or, replicate}
 use Rattle.lists.specs.Filled.{filled}
 use Rattle.sets.specs.Members.{set_of, size_of, sum_over, with_member, each_in, disjoint}
 use Rattle.euclid.specs.Euclid.{gcd_of}
@@ -21,7 +21,7 @@ cell rows i k = at (get_or rows i []) k
 -- the largest of the first n members
 unfoldable pub largest : (members : List ℕ) → ℕ → ℕ
 largest members zero = 0
-largest members (suc n) = cond (ltb (largest members n) (at members n)) (at members n) (largest members n)
+largest members (suc n) = max (largest members n) (at members n)
 
 -- a chain is complete when its largest member is placed
 abbrev pub last_of : Chain → ℕ
@@ -63,8 +63,7 @@ desk_of s delays =
     record {
       sheet = s;
       delays = delays;
-      periods = periods_of s;
-      budgets = budgets_of s;
+      times = record { periods = periods_of s; budgets = budgets_of s };
       memories = memories_of s;
       divisors = divisors_of (periods_of s) s.head.partitions;
       apart = partners_of s 0;
@@ -79,7 +78,7 @@ held_on ms m j = set_of (is_on ms m) j
 module _ (d : Desk) where
   -- how many starts partition j has: 0 to T - B
   abbrev pub width_of : ℕ → ℕ
-  width_of j = at d.periods j - at d.budgets j + 1
+  width_of j = at d.times.periods j - at d.times.budgets j + 1
 
   -- C5 and C4 of module m, on which the partitions of a set are
   unfoldable pub room_in : (m set : ℕ) → Bool
@@ -98,12 +97,12 @@ module _ (d : Desk) where
 
   -- C2 of partitions i and j, which share a module
   abbrev pub clear_with : (ts : List ℕ) → (j i : ℕ) → Bool
-  clear_with ts j i = clear_by (cell d.divisors i j) (at ts i) (at d.budgets i) (at ts j) (at d.budgets j)
+  clear_with ts j i = clear_by (cell d.divisors i j) (at ts i) (at d.times.budgets i) (at ts j) (at d.times.budgets j)
 
   -- C8 of chain c
   unfoldable pub kept_at : (ms : List ℕ) → ℕ → Bool
   kept_at ms c =
-      leb (chain_delay d.periods d.budgets d.delays ms (chain_at d.sheet c).members (chain_at d.sheet c).length) (chain_at d.sheet c).limit
+      leb (chain_delay d.times.periods d.times.budgets d.delays ms (chain_at d.sheet c).members (chain_at d.sheet c).length) (chain_at d.sheet c).limit
 
   -- the module of partition j admits it, it is clear of those before it there, and the chains that it completes are kept
   unfoldable pub fits_where : (admitted : Bool) → (ms ts : List ℕ) → ℕ → Bool

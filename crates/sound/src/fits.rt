@@ -2,29 +2,23 @@
 // asked once for all starts on a module (`beside`, `admits`), C2 of each try, and C8, which a start does not change either, of a try that C2 lets
 // through: its sum reads the module that the try writes.
 ghost use Rattle.std.specs.Prelude.{◌≡◌, ◌≤◌, ◌<◌, ◌^◌};
-ghost use Rattle.sets.specs.Members.{each_in};
 ghost use Rattle.model.specs.Limits.{most_modules, most_partitions};
 ghost use Rattle.judge.specs.Constraints.{at};
 ghost use Rattle.judge.specs.Asked.{Placed};
-ghost use Rattle.sound.specs.Desk.{cell, held_on, room_in, farther, admits_on, clear_with, kept_at, fits_where};
-ghost use Rattle.sound.specs.Asked.{Divisible, SetPlaced, ChainPlaced, ChainsPlaced, Askable, Testable};
+ghost use Rattle.sound.specs.Desk.{held_on, room_in, farther, admits_on, clear_with, kept_at, fits_where};
+ghost use Rattle.sound.specs.Asked.{Divisible, ChainPlaced, Askable, Testable};
 
 use crate::desk::Desk;
+use crate::those::those;
 use judge::chains::delay_over;
-use model::records::{Plan, Sheet};
+use model::records::Plan;
 
 // The set of those of the partitions before j that are on module m.
 pub fn beside(plan: &Plan, m: u32, j: usize) -> u64
     requires { j < most_partitions }
     ensures { result ≡ held_on plan.now.modules m j }
 {
-    let mut set: u64 = 0;
-    for i in 0..j {
-        if plan.modules[i] == m {
-            set = sets::with(set, i);
-        }
-    }
-    set
+    those(j, |i| plan.modules[i] == m)
 }
 
 impl Desk {
@@ -48,22 +42,6 @@ impl Desk {
             != self.sheet.modules[m as usize].cabinet
     }
 
-    // C7 of the partitions of a set and one on module m.
-    fn are_far(&self, plan: &Plan, m: u32, set: u64) -> bool
-        requires { (m < most_modules) × SetPlaced plan.now.modules set }
-        ensures { result ≡ each_in (farther self.now plan.now.modules m) set }
-    {
-        let mut left = set;
-        while left != 0 {
-            let i = sets::lowest(left);
-            if !self.is_far(plan, m, i) {
-                return false;
-            }
-            left = sets::without_lowest(left);
-        }
-        true
-    }
-
     // Whether module m admits partition j, whatever its start: C4 to C7. `held` are the partitions before j on it.
     #[tactic(auto, unfolding(crate::specs::Desk::admits_on))]
     pub fn admits(&self, plan: &Plan, m: u32, held: u64, j: usize) -> bool
@@ -73,37 +51,21 @@ impl Desk {
     {
         self.has_room(m as usize, sets::with(held, j))
             && sets::apart(self.apart[j], held)
-            && self.are_far(plan, m, self.far[j])
+            && sets::all(self.far[j], |i| self.is_far(plan, m, i))
     }
 
     // C2 of partitions i and j, which share a module, by the divisor of the pair.
     fn is_clear(&self, plan: &Plan, j: usize, i: usize) -> bool
-        requires { (i < most_partitions) × (j < most_partitions) × (1 ≤ cell self.now.divisors i j) }
+        requires { (j < most_partitions) × Divisible self.now j × (i < j) }
         ensures { result ≡ clear_with self.now plan.now.starts j i }
     {
         overlap::clear(
             self.divisors[i][j],
             plan.starts[i],
-            self.budgets[i],
+            self.times.budgets[i],
             plan.starts[j],
-            self.budgets[j],
+            self.times.budgets[j],
         )
-    }
-
-    // C2 of partition j with each partition before it that is on its module: those of the set `held`.
-    fn are_clear(&self, plan: &Plan, held: u64, j: usize) -> bool
-        requires { (j < most_partitions) × Divisible self.now j × (held < 2 ^ j) }
-        ensures { result ≡ each_in (clear_with self.now plan.now.starts j) held }
-    {
-        let mut left = held;
-        while left != 0 {
-            let i = sets::lowest(left);
-            if !self.is_clear(plan, j, i) {
-                return false;
-            }
-            left = sets::without_lowest(left);
-        }
-        true
     }
 
     // C8 of chain c.
@@ -112,42 +74,20 @@ impl Desk {
         requires { ChainPlaced self.now.sheet plan.now.modules c }
         ensures { result ≡ kept_at self.now plan.now.modules c }
     {
-        let chain = self.sheet.chains[c];
-        let delay = delay_over(
-            chain.members,
-            usize::from(chain.length),
-            &self.periods,
-            &self.budgets,
-            &plan.modules,
-            &self.delays,
-        );
-        delay <= u64::from(chain.limit)
-    }
-
-    // C8 of the chains of a set.
-    fn are_kept(&self, plan: &Plan, set: u64) -> bool
-        requires { ChainsPlaced self.now.sheet plan.now.modules set }
-        ensures { result ≡ each_in (kept_at self.now plan.now.modules) set }
-    {
-        let mut left = set;
-        while left != 0 {
-            let c = sets::lowest(left);
-            if !self.is_kept(plan, c) {
-                return false;
-            }
-            left = sets::without_lowest(left);
-        }
-        true
+        let chain = &self.sheet.chains[c];
+        delay_over(chain, &self.times, &plan.modules, &self.delays) <= u64::from(chain.limit)
     }
 
     // The placement of partition j fits those of the partitions before it. `held` are those of them that are on its module, and `admitted` says whether
     // the module admits it.
-    #[tactic(auto, unfolding(crate::specs::Desk::fits_where))]
+    #[tactic(auto, using(crate::proofs::Tested::held_before), unfolding(crate::specs::Desk::fits_where))]
     pub fn fits(&self, plan: &Plan, held: u64, admitted: bool, j: usize) -> bool
         requires testable { Testable self.now plan.now.modules j }
         requires held_value { held ≡ held_on plan.now.modules (at plan.now.modules j) j }
         ensures { result ≡ fits_where self.now admitted plan.now.modules plan.now.starts j }
     {
-        admitted && self.are_clear(plan, held, j) && self.are_kept(plan, self.endings[j])
+        admitted
+            && sets::all(held, |i| self.is_clear(plan, j, i))
+            && sets::all(self.endings[j], |c| self.is_kept(plan, c))
     }
 }

@@ -5,7 +5,7 @@ use native.Mathlib.Omega.{arith}
 use Rattle.tries.proofs.Tried as tried
 use Rattle.tries.proofs.Going.{begin, turn, done, leave}
 use Rattle.sound.proofs.Alike.{held_alike, admits_alike}
-use Rattle.sound.proofs.Laid.{ready_alike, try_held, try_fits, among, past}
+use Rattle.sound.proofs.Laid.{ready_alike, try_held, try_fits}
 use Rattle.search.proofs.Ends.{breaks}
 use Rattle.search.proofs.attempts.+attempt_over.Goals as goal
 use Rattle.search.proofs.attempts.+attempt_over.Goals.{over-else-loop-t-test, over-then-loop-t-test+in_ok-attempt+else-t-last}
