@@ -6,9 +6,9 @@ use mathlib.Core.List.{List, ◌++◌}
 use Prim.Native.Nat.{ℕ, zero, suc, ◌+◌, ◌*◌, ◌/◌, ◌≤◌, ◌<◌}
 use native.Mathlib.Decide.{dec_lt}
 use native.Mathlib.Omega.{arith}
-use lib.Dec.{ltb}
+use lib.Dec.{ltb, leb}
 use lib.ListN.{length, drop}
-use borrow.Author.Tests.{lt-ltb, le-ltb, ltb-false, lt-leb, le-leb}
+use borrow.Author.Tests.{lt-ltb, ltb-false, leb-false}
 use Rattle.numbers.specs.Numbers.{fine, no_such_module, frame_too_large, too_many_slots, buffer_too_short}
 use Rattle.numbers.specs.First.{broken, met, met_stop, met_go}
 use Rattle.table.specs.Layout.{most_frame, most_slots, head_size, slot_size, table_bytes}
@@ -17,6 +17,11 @@ use Rattle.frames.proofs.Length.{slots_length}
 use Rattle.model.specs.declared.records.Sheet.{Sheet}
 use Rattle.model.specs.declared.records.Plan.{Plan}
 use Rattle.judge.specs.Verdict.{judged}
+use Rattle.judge.specs.Answers.{failed_as}
+use Rattle.judge.specs.declared.Broken.TheVariants.{OffTheModules, Overlap, PastThePeriod, PastTheMemory, PastTheMost, SharedModule, SharedCabinet, PastTheLimit}
+use Rattle.judge.specs.declared.Failure.{Failure}
+use Rattle.judge.specs.declared.Failure.TheVariants as failures
+use Rattle.numbers.proofs.Refused.{number_some}
 use Rattle.table.proofs.Numbers.{unbroken}
 use Rattle.builder.specs.Parts.{parts_of}
 use Rattle.builder.specs.Asked.{Timed, FrameFound, Ready}
@@ -100,14 +105,30 @@ module _ (s : Sheet) (delays : List (List ℕ)) (p : Plan) (m n : ℕ) where
   number_judged {k} e ne = met_stop k _ _ e ne
 
   module _ (z : (judged s delays p).number ≡ 0) where
-    pub number_module : s.head.modules ≤ m → no_such_module ≡ built_number s delays p m n
+    pub number_module : {k : ℕ} → k ≡ broken (leb s.head.modules m) no_such_module → (k ≡ 0 → ⊥) → k ≡ built_number s delays p m n
     unfolding built_number
-    number_module h =
-        met_go 0 _ _ no_such_module (sym z) refl
-        (met_stop no_such_module _ _ (sym (ap (λ (t : Bool). broken t no_such_module) (le-leb _ _ h))) (λ e. omega arith))
+    number_module {k} e ne = met_go 0 _ _ k (sym z) refl (met_stop k _ _ e ne)
 
-    pub number_room : m < s.head.modules → room_number (parts_on s p m) n ≡ built_number s delays p m n
+    number_room : 0 ≡ broken (leb s.head.modules m) no_such_module → room_number (parts_on s p m) n ≡ built_number s delays p m n
     unfolding built_number
-    number_room h =
-        met_go 0 _ _ _ (sym z) refl
-        (met_go 0 _ _ _ (sym (ap (λ (t : Bool). broken t no_such_module) (lt-leb _ _ h))) refl refl)
+    number_room e = met_go 0 _ _ _ (sym z) refl (met_go 0 _ _ _ e refl refl)
+
+    -- what is returned and left of the module's partitions as the code has them
+    module _ {ps : List Part} (e : ps ≡ parts_on s p m) (b : 0 ≡ broken (leb s.head.modules m) no_such_module) where
+      pub room_returned : returned (room_number ps n) ps ≡ returned (built_number s delays p m n) (parts_on s p m)
+      room_returned = ap (λ (q : List Part). returned (room_number q n) q) e ∙ ap (λ (k : ℕ). returned k (parts_on s p m)) (number_room b)
+
+      pub room_left : (d : List ℕ) → left (room_number ps n) ps d ≡ left (built_number s delays p m n) (parts_on s p m) d
+      room_left d = ap (λ (q : List Part). left (room_number q n) q d) e ∙ ap (λ (k : ℕ). left k (parts_on s p m) d) (number_room b)
+
+-- what the judge fails with is no acceptance
+pub failure_some : (f : Failure) → (failed_as f).number ≡ 0 → ⊥
+failure_some (failures.Refused refusal) e = number_some refusal e
+failure_some (failures.Broken (OffTheModules partition)) e = absurd (omega arith)
+failure_some (failures.Broken (Overlap first second)) e = absurd (omega arith)
+failure_some (failures.Broken (PastThePeriod partition)) e = absurd (omega arith)
+failure_some (failures.Broken (PastTheMemory m)) e = absurd (omega arith)
+failure_some (failures.Broken (PastTheMost m)) e = absurd (omega arith)
+failure_some (failures.Broken (SharedModule exclusion)) e = absurd (omega arith)
+failure_some (failures.Broken (SharedCabinet exclusion)) e = absurd (omega arith)
+failure_some (failures.Broken (PastTheLimit chain)) e = absurd (omega arith)
