@@ -8,7 +8,7 @@ use native.Mathlib.Decide.{dec_lt}
 use native.Mathlib.Omega.{arith}
 use lib.Dec.{ltb, leb}
 use lib.ListN.{length, drop}
-use borrow.Author.Tests.{lt-ltb, ltb-false, leb-false}
+use borrow.Author.Tests.{lt-ltb, ltb-false}
 use Rattle.numbers.specs.Numbers.{fine, no_such_module, frame_too_large, too_many_slots, buffer_too_short}
 use Rattle.numbers.specs.First.{broken, met, met_stop, met_go}
 use Rattle.table.specs.Layout.{most_frame, most_slots, head_size, slot_size, table_bytes}

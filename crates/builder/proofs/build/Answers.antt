@@ -13,17 +13,15 @@ use Rattle.model.specs.declared.records.Sheet.{Sheet}
 use Rattle.model.specs.declared.records.Plan.{Plan}
 use Rattle.judge.specs.declared.Answer.{Answer}
 use Rattle.judge.specs.Answers.{failed_as}
-use Rattle.judge.specs.Verdict.{accepted, judged}
+use Rattle.judge.specs.Verdict.{accepted}
 use Rattle.judge.specs.Hosted.{sets_on}
 use Rattle.judge.specs.Constraints.{is_on}
 use Rattle.judge.proofs.Hosting.{set_at}
-use Rattle.frames.specs.Frame.{Part}
-use Rattle.builder.specs.Built.{parts_on, room_number, returned, left}
+use Rattle.builder.specs.Built.{parts_on}
 use Rattle.builder.proofs.Returned.{returned_refused, left_refused, number_judged, number_module, room_returned, room_left, failure_some}
 use Rattle.builder.proofs.Hosted.{Good, good, on_a_module, found_parts, found_timed, found_hosted}
 use lib.Dec.{leb}
 use Rattle.builder.proofs.build.Goals as goal
-
 
 -- the judge accepts
 zero : {a : Answer} → accepted ≡ a → a.number ≡ 0

@@ -1,5 +1,5 @@
 -- 21, 22 and 23 of the frame that is found and the count of slots in it.
-use Rattle.std.proofs.Common.{rules, refl, sym, arith, length}
+use Rattle.std.proofs.Common.{rules, refl, arith, length}
 use Rattle.numbers.specs.First.{met}
 use Rattle.frames.specs.Frame.{slots_of}
 use Rattle.builder.specs.OnModule.{parts}
