@@ -12,6 +12,8 @@ use Rattle.numbers.specs.First.{met, broken, met_pass, met_hit}
 use Rattle.numbers.specs.Numbers as numbers
 use Rattle.model.specs.Limits.{most_partitions}
 use Rattle.model.specs.Decoded.{decoded_number}
+use Rattle.model.specs.None.{no_plan}
+use Rattle.model.specs.declared.records.Plan.{Plan}
 use Rattle.model.specs.declared.records.Sheet.{Sheet}
 use Rattle.reader.specs.Plan.{plan_length, plan_bytes, with_placements}
 use Rattle.tries.specs.Tries.{Answer, found, absent, stopped}
@@ -19,8 +21,7 @@ use Rattle.tries.specs.Code.{Standing, shown, placed}
 use Rattle.tries.proofs.Placements.{pairs_modules, pairs_starts}
 use Rattle.sound.specs.Sound.{modules_in, starts_in}
 use Rattle.search.specs.Answer.{answer_of, answered, written, refusal_of, found_of, buffer_after}
-use Rattle.search.specs.Standing.{Ran, nothing_placed}
-use Rattle.search.specs.declared.run.Partial.{Partial}
+use Rattle.search.specs.Standing.{Ran}
 use Rattle.search.specs.declared.Found.{Found}
 use Rattle.sound.proofs.Alike.{Alike}
 
@@ -42,7 +43,7 @@ plan_written n ms ts l k =
     same = length-take-le n ms l ∙ sym (length-take-le n ts k)
 
 -- the columns of the empty partial plan have a place for each partition
-pub empty_long : (p : Partial) → p ≡ nothing_placed → (most_partitions ≤ length p.modules) × (most_partitions ≤ length p.starts)
+pub empty_long : (p : Plan) → p ≡ no_plan → (most_partitions ≤ length p.modules) × (most_partitions ≤ length p.starts)
 empty_long p e = rw e (lit≤ tt, lit≤ tt)
 
 -- the three ends of a search

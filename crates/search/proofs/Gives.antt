@@ -8,7 +8,6 @@ use native.Mathlib.Numerals.{add-one}
 use lib.ListN.{length}
 use Rattle.model.specs.Limits.{most_partitions}
 use Rattle.model.specs.Fair.{Fair}
-use Rattle.model.specs.Columns.{periods_of, budgets_of, memories_of}
 use Rattle.model.specs.declared.records.Sheet.{Sheet}
 use Rattle.judge.specs.Constraints.{at}
 use Rattle.tries.specs.Code.{Standing, begun, search_of, placed, shown}
@@ -16,10 +15,9 @@ use Rattle.tries.proofs.TwoArrays.{code_answers}
 use Rattle.tries.proofs.Kept.{search_lengths}
 use Rattle.sound.specs.Sound.{starts_of, sound}
 use Rattle.search.specs.Answer.{answer_of}
-use Rattle.sound.specs.Desk.{Desk, desk, desk_of, fits_by, width_of, divisors_of, rooms_of, exclusions_of, partners_of, chains_of, endings_of, members_of}
-use Rattle.sound.specs.Asked.{Ready, Ordered}
-use Rattle.sound.proofs.Tables.{ordered}
-use Rattle.search.specs.Standing.{Ran}
+use Rattle.sound.specs.Desk.{desk_of, fits_by}
+use Rattle.sound.specs.Asked.{Ready}
+use Rattle.search.specs.Standing.{Searched, Ran}
 use Rattle.sound.proofs.Hereditary.{hereditary, placed_sound}
 use Rattle.sound.proofs.Judges.{judges}
 use Rattle.sound.proofs.Laid.{fair_laid}
@@ -40,39 +38,25 @@ module _ (s : Sheet) (delays : List (List ℕ)) (fair : Fair s delays) where
           judges s delays fair j ms ts h on within (sym (placed_sound s delays j ms ts (omega arith) (omega arith)) ∙ e)
           ∙ sym (rw add-one (placed_sound s delays (suc j) ms ts (omega arith) (omega arith)))
 
-  pub in_order : {exclusions : List (List ℕ)} → exclusions ≡ exclusions_of s → Ordered exclusions s.head.exclusions
-  in_order e = rw e (ordered s delays fair)
+  -- ---- the search over the desk
+  -- may begin
+  pub begins : (ms : List ℕ) → most_partitions ≤ length ms → Ready (desk_of s delays) ms 0
+  begins ms l = record {
+    laid = fair_laid s delays fair;
+    left = fair.head.some_partition;
+    long = omega (arith, fair.head.inside.partitions);
+    placed = λ i l. absurd (omega arith);
+  }
 
-  -- ---- the search over arrays that hold the desk
-  module _ {T B memory divisors apart far endings : List ℕ} {rooms exclusions chains members : List (List ℕ)}
-      (t : T ≡ periods_of s) (b : B ≡ budgets_of s) (m : memory ≡ memories_of s) (g : divisors ≡ divisors_of T N)
-      (r : rooms ≡ rooms_of s) (x : exclusions ≡ exclusions_of s) (a : apart ≡ partners_of exclusions 0 s.head.exclusions N)
-      (f : far ≡ partners_of exclusions 1 s.head.exclusions N) (c : chains ≡ chains_of s) (e : endings ≡ endings_of chains s.head.chains N)
-      (k : members ≡ members_of s) where
-    abbrev held : Desk
-    held = desk T B memory divisors rooms apart far endings chains members delays
-
-    held_is : held ≡ desk_of s delays
-    held_is = rw (g, t, b, m, r, a, f, x, e, c, k)
-
-    -- the search may begin
-    pub begins : (ms : List ℕ) → most_partitions ≤ length ms → Ready N s.head.modules held ms 0
-    begins ms l = rw held_is (record {
-      laid = fair_laid s delays fair;
-      left = fair.head.some_partition;
-      long = omega (arith, fair.head.inside.partitions);
-      placed = λ i l. absurd (omega arith);
-    })
-
-    -- and gives the answer
-    pub ends : (limit : ℕ) (ms ts : List ℕ) → most_partitions ≤ length ms → most_partitions ≤ length ts
-        → (o : Standing) → o ≡ search_of N s.head.modules (width_of T B) (fits_by held) limit (N - 0) 0 (begun 0 ms ts) → Ran s delays limit o
-    ends limit ms ts l q o same-o =
-        let few = fair.head.inside.partitions in
-        let none : N - 0 ≡ N = omega arith in
-        let same = search_lengths N s.head.modules (width_of T B) (fits_by held) limit (N - 0) 0 (begun 0 ms ts) in
-        rw same-o (record {
-          answer = rw (none, held_is, t, b) (search_gives limit ms ts (omega arith) (omega arith));
-          modules = omega (arith, same.modules);
-          starts = omega (arith, same.starts);
-        })
+  -- and gives the answer
+  pub ends : (limit : ℕ) (ms ts : List ℕ) → most_partitions ≤ length ms → most_partitions ≤ length ts
+      → (o : Standing) → Searched (desk_of s delays) limit 0 (begun 0 ms ts) o → Ran s delays limit o
+  ends limit ms ts l q o same-o =
+      let few = fair.head.inside.partitions in
+      let none : N - 0 ≡ N = omega arith in
+      let same = search_lengths N s.head.modules (starts_of s) (fits_by (desk_of s delays)) limit (N - 0) 0 (begun 0 ms ts) in
+      rw same-o (record {
+        answer = rw none (search_gives limit ms ts (omega arith) (omega arith));
+        modules = omega (arith, same.modules);
+        starts = omega (arith, same.starts);
+      })

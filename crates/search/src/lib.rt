@@ -8,9 +8,9 @@ ghost use Rattle.search.specs.Answer.{found_of, buffer_after};
 pub mod attempts;
 pub mod run;
 
-use crate::run::{Partial, run};
+use crate::run::run;
 use model::decoded::sheet_number;
-use model::records::Sheet;
+use model::records::{Plan, Sheet};
 use reader::plan::{length_of, write_plan};
 
 // What the search answers: its number (0 found, 26 no plan, 27 stopped, or that of a refusal) and the tries made.
@@ -46,12 +46,10 @@ pub fn search(
             tries: 0,
         };
     }
-    let empty = Partial::empty();
-    let mut modules = empty.modules;
-    let mut starts = empty.starts;
-    let o = run(s, d, budget, &mut modules, &mut starts);
+    let mut plan = Plan::none();
+    let o = run(&s, &d, budget, &mut plan);
     if o.found {
-        write_plan(&modules, &starts, n, buffer);
+        write_plan(&plan.modules, &plan.starts, n, buffer);
         return Found {
             number: numbers::FINE,
             tries: o.tries,

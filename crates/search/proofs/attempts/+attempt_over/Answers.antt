@@ -12,22 +12,22 @@ pub attempt-returns-then-limit-tries : goal.attempt-returns-then-limit-tries
 attempt-returns-then-limit-tries t c = tried.stops _ _ _ _ _ _ _ _ _ _ _ _ c.if-limit-tries.true
 
 pub attempt-fits-requires-clause-held_value : goal.attempt-fits-requires-clause-held_value
-attempt-fits-requires-clause-held_value t c = try_held _ _ _ _ _ c.requires.ready _ c.requires.m_lt_hosts.0 c.requires.m_lt_hosts.1
+attempt-fits-requires-clause-held_value t c = try_held _ _ _ c.requires.ready _ c.requires.m_lt_hosts.0 c.requires.m_lt_hosts.1
 
-pub attempt-returns-then-j-count : goal.attempt-returns-then-j-count
-attempt-returns-then-j-count t c =
+pub attempt-returns-then-j-desk : goal.attempt-returns-then-j-desk
+attempt-returns-then-j-desk t c =
     tried.goes _ _ _ _ _ _ _ _ _ _ _ _ _ c.if-limit-tries.false
-    (try_fits _ _ _ _ _ c.requires.ready _ c.requires.m_lt_hosts.0 _ c.fits.ensures c.requires.admitted_value) _ c.if-fits.true c.if-j-count.true c.over.ensures
+    (try_fits _ _ _ c.requires.ready _ c.requires.m_lt_hosts.0 _ c.fits.ensures c.requires.admitted_value) _ c.if-fits.true c.if-j-desk.true c.over.ensures
 
 pub attempt-returns-then-fits : goal.attempt-returns-then-fits
 attempt-returns-then-fits t c =
     tried.finds _ _ _ _ _ _ _ _ _ _ _ _ _ c.if-limit-tries.false
-    (try_fits _ _ _ _ _ c.requires.ready _ c.requires.m_lt_hosts.0 _ c.fits.ensures c.requires.admitted_value) c.if-fits.true c.if-j-count.false
+    (try_fits _ _ _ c.requires.ready _ c.requires.m_lt_hosts.0 _ c.fits.ensures c.requires.admitted_value) c.if-fits.true c.if-j-desk.false
 
 pub attempt-returns : goal.attempt-returns
 attempt-returns t c =
     tried.fails _ _ _ _ _ _ _ _ _ _ _ _ _ c.if-limit-tries.false
-    (try_fits _ _ _ _ _ c.requires.ready _ c.requires.m_lt_hosts.0 _ c.fits.ensures c.requires.admitted_value) c.if-fits.false
+    (try_fits _ _ _ c.requires.ready _ c.requires.m_lt_hosts.0 _ c.fits.ensures c.requires.admitted_value) c.if-fits.false
 
 pub over-loop-m-init : goal.over-loop-m-init
 over-loop-m-init t c = (begin _ _ _ _ _ _ _ _ _ c.requires.left, refl)
@@ -38,13 +38,13 @@ over-attempt-o-requires t c =
     let row = c.loop-m in
     let col = c.loop-t in
     let now = col.invariant.0.kept in
-    let ready = ready_alike _ _ _ row.modules _ (ready_alike _ _ _ _ _ c.requires _ row.invariant.0.kept.long row.invariant.0.kept.same) _ now.long now.same in (
+    let ready = ready_alike _ row.plan.modules _ (ready_alike _ _ _ c.requires _ row.invariant.0.kept.long row.invariant.0.kept.same) _ now.long now.same in (
       omega arith,
       (
-        (c.loop-m-test.true, col.invariant.1 ∙ held_alike row.modules col.modules row.m a.j (λ i l. sym (now.same i l))),
+        (c.loop-m-test.true, col.invariant.1 ∙ held_alike row.plan.modules col.plan.modules row.m a.j (λ i l. sym (now.same i l))),
         (
           col.invariant.2
-              ∙ admits_alike row.modules col.modules row.m a.j (λ i l. sym (now.same i l)) a.memories.now a.rooms.now a.apart.now a.far.now (c.requires.laid.far a.j c.requires.left),
+              ∙ admits_alike row.plan.modules col.plan.modules row.m a.j (λ i l. sym (now.same i l)) a.desk.now (c.requires.laid.far a.j c.requires.left),
           ready,
         ),
       ),

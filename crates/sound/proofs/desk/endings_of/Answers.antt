@@ -1,12 +1,7 @@
-use mathlib.Core.Path.{sym}
-use native.Mathlib.Omega.{arith}
-use Rattle.lists.specs.Filled.{filled_none, filled_more}
-use Rattle.model.specs.Limits.{most_partitions}
-use Rattle.sound.specs.Desk.{endings_of}
+use Rattle.std.proofs.Common.{rules}
+use Rattle.sound.specs.Desk.{completed_by, endings_of}
 use Rattle.sound.proofs.desk.endings_of.Goals as goal
 
-pub loop-j-init : goal.loop-j-init
-loop-j-init c = (omega arith, unfold endings_of in sym (filled_none most_partitions _ 0))
-
-pub loop-j-preserved : goal.loop-j-preserved
-loop-j-preserved c = let l = c.loop-j in (omega arith, unfold endings_of in filled_more most_partitions l.j _ 0 l.invariant.1 c.completed.ensures (omega arith))
+pub returns : goal.returns
+unfolding endings_of
+returns c = c.filled.ensures (completed_by c.args.s.now) (λ j r h p. search rules)

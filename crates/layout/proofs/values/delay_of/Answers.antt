@@ -1,9 +1,0 @@
--- `layout::values::delay_of` meets its contract. Assumes nothing.
-use Prim.Native.Nat.{◌+◌, ◌*◌}
-use native.Mathlib.Omega.{arith}
-use Rattle.bits.proofs.Laws.{field_below}
-use Rattle.model.specs.Widths.{delay_bits}
-use Rattle.layout.proofs.values.delay_of.Goals as goal
-
-pub overflow_cast-result : goal.overflow_cast-result
-overflow_cast-result c = let a = c.args in omega (arith, c.field.ensures, field_below a.b.now (a.at + a.j * delay_bits) delay_bits)
