@@ -15,7 +15,7 @@ pub struct Counts {
 pub fn counts_of(sheet: &[u8]) -> Counts
     ensures { result ≡ counts_of sheet.now }
 {
-    if reader::number(sheet) != 0 {
+    if reader::check(sheet).is_err() {
         return Counts {
             modules: 0,
             partitions: 0,
