@@ -36,7 +36,7 @@ module _ (sheet plan : List ℕ) {n : ℕ} (e : n ≡ met (sheet_number sheet) (
 
   module _ (z : n ≡ 0) {s : Sheet} {p : Plan} {d : List (List ℕ)} (f : s ≡ sheet_of sheet) (g : p ≡ plan_of plan (partitions_in sheet)) (h : d ≡ delays_of sheet) where
     -- on the values the builder's number is that of the bytes
-    value_number : built_number s d p m (length buffer) ≡ build_number sheet plan m (length buffer)
+    pub value_number : built_number s d p m (length buffer) ≡ build_number sheet plan m (length buffer)
     unfolding built_number build_number
     value_number = rw (by_values sheet plan e z f g h, f, g)
 
