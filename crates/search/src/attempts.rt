@@ -65,6 +65,7 @@ impl Host {
 
 // Every placement of partition j in turn: by module, then start, ascending.
 #[cycle(attempt_over)]
+#[tactic(auto, using(tries::proofs::Going::begin, tries::proofs::Going::done))]
 pub fn over(desk: &Desk, limit: u32, course: &mut Course, j: usize) -> ControlFlow<End>
     requires { Ready desk.now course.old.plan.modules j }
     ensures { Searched desk.now limit j (under_way course.old) (standing result course.new) }
@@ -81,6 +82,7 @@ pub fn over(desk: &Desk, limit: u32, course: &mut Course, j: usize) -> ControlFl
 
 // One try: partition j on the module of `host` with start t, and where that fits the partitions left.
 #[cycle(attempt_over)]
+#[tactic(auto, using(tries::proofs::Tried::stops, crate::proofs::Steps::held_there, crate::proofs::Steps::fails, crate::proofs::Steps::finds, crate::proofs::Steps::goes))]
 fn attempt(
     desk: &Desk,
     limit: u32,

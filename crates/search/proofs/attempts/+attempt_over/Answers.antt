@@ -9,31 +9,6 @@ use Rattle.search.proofs.Steps.{taken_alike, breaks}
 use Rattle.search.proofs.attempts.+attempt_over.Goals as goal
 use Rattle.search.proofs.attempts.+attempt_over.Goals.{over-else-loop-t-test, over-then-loop-t-test+in_ok-attempt+else-t-last}
 
-pub attempt-returns-then-limit-course : goal.attempt-returns-then-limit-course
-attempt-returns-then-limit-course t c = tried.stops _ _ _ _ _ _ _ _ _ _ _ _ c.if-limit-course.true
-
-pub attempt-fits-requires-clause-held_value : goal.attempt-fits-requires-clause-held_value
-attempt-fits-requires-clause-held_value t c = try_held _ _ _ c.requires.ready _ c.requires.host.on c.requires.host.held
-
-pub attempt-returns-then-not-fits : goal.attempt-returns-then-not-fits
-attempt-returns-then-not-fits t c =
-    tried.fails _ _ _ _ _ _ _ _ _ _ _ _ _ c.if-limit-course.false
-    (try_fits _ _ _ c.requires.ready _ c.requires.host.on _ c.fits.ensures c.requires.host.admitted) c.if-not-fits.true
-
-pub attempt-returns-then-j-desk : goal.attempt-returns-then-j-desk
-attempt-returns-then-j-desk t c =
-    tried.finds _ _ _ _ _ _ _ _ _ _ _ _ _ c.if-limit-course.false
-    (try_fits _ _ _ c.requires.ready _ c.requires.host.on _ c.fits.ensures c.requires.host.admitted) c.if-not-fits.false (omega (arith, c.if-j-desk.true))
-
-pub attempt-returns : goal.attempt-returns
-attempt-returns t c =
-    tried.goes _ _ _ _ _ _ _ _ _ _ _ _ _ c.if-limit-course.false
-    (try_fits _ _ _ c.requires.ready _ c.requires.host.on _ c.fits.ensures c.requires.host.admitted) _ c.if-not-fits.false
-    (omega (arith, c.if-j-desk.false, c.requires.ready.left)) c.over.ensures
-
-pub over-loop-m-init : goal.over-loop-m-init
-over-loop-m-init t c = begin _ _ _ _ _ _ _ _ _ c.requires.left
-
 pub over-attempt-requires : goal.over-attempt-requires
 over-attempt-requires t c =
     let row = c.loop-m in
@@ -62,5 +37,3 @@ over-loop-m-preserved t c = elim c.loop-t-test.branch [
     (omega arith))
 ]
 
-pub over-returns : goal.over-returns
-over-returns t c = done _ _ _ _ _ _ _ _ _ _ _ _ _ c.loop-m.invariant c.loop-m-test.false
