@@ -1,21 +1,20 @@
 -- Steps of the search: what was asked of a module holds as long as the partitions before j stay, and a try that ends the search ends the search over
 -- its partition. Assumes nothing.
-use mathlib.Core.Path.{◌≡◌, refl, ◌∙◌}
+use mathlib.Core.Path.{◌≡◌, refl, sym, ◌∙◌}
 use mathlib.Core.List.{List}
-use Prim.Native.Nat.{ℕ, ◌+◌, ◌<◌}
+use Prim.Native.Nat.{ℕ, ◌+◌, ◌-◌, ◌<◌, ◌≤◌}
 use native.Mathlib.Omega.{arith}
 use lib.ListN.{set}
 use mathlib.Core.Bool.{Bool, true, false}
-use Rattle.tries.specs.Code.{Standing, begun}
+use Rattle.tries.specs.Code.{Standing}
 use Rattle.tries.proofs.Tried as tried
-use Rattle.tries.proofs.Going.{Rows, Cols, whole, hit, halt}
-use Rattle.tries.proofs.Going as going
+use Rattle.tries.proofs.Going.{Rows, Cols, begin, enter, turn, done, leave, hit, halt}
 use Rattle.sets.specs.Members.{places, member}
 use Rattle.judge.specs.Constraints.{at}
 use Rattle.sound.specs.declared.desk.Desk.{Desk}
 use Rattle.sound.specs.Asked.{Ready}
-use Rattle.sound.specs.Desk.{held_on, fits_by, fits_where}
-use Rattle.sound.proofs.Laid.{try_held, try_fits}
+use Rattle.sound.specs.Desk.{width_of, held_on, fits_by, fits_where}
+use Rattle.sound.proofs.Laid.{ready_alike, try_held, try_fits}
 use Rattle.sound.proofs.Alike.{Alike, held_alike, admits_alike}
 use Rattle.search.specs.Standing.{TakenUp, Tried, Searched, under_way, ended}
 use Rattle.search.specs.declared.attempts.Course.{Course}
@@ -60,10 +59,48 @@ module _ (d : Desk) (limit j t : ℕ) (course : Course) (host : Host) where
         → Tried d limit j host.module t (under_way course) o
     goes o v ne g = tried.goes _ _ _ _ _ _ _ _ _ _ _ _ _ l tested o v (omega (arith, ready.left)) g
 
-module _ (count modules : ℕ) (width : ℕ → ℕ) (fits : List ℕ → List ℕ → ℕ → Bool) (limit j : ℕ) where
-  pub breaks : (ms₀ ts₀ : List ℕ) (k₀ : ℕ) (ms₁ ts₁ : List ℕ) (k₁ m : ℕ) → Rows count modules width fits limit j ms₀ ts₀ k₀ ms₁ ts₁ k₁ m → m < modules
-      → (ms ts : List ℕ) (k t : ℕ) → Cols count modules width fits limit j ms₁ ts₁ k₁ ms ts k m t → t < width j
-      → (end : End) (course : Course) → ended end course ≡ going.tried count modules width fits limit j m t (begun k ms ts)
-      → ended end course ≡ whole count modules width fits limit j k₀ ms₀ ts₀
-  breaks ms₀ ts₀ k₀ ms₁ ts₁ k₁ m r l ms ts k t c h Found course e = hit _ _ _ _ _ _ _ _ _ _ _ _ _ r l _ _ _ _ c h _ e refl
-  breaks ms₀ ts₀ k₀ ms₁ ts₁ k₁ m r l ms ts k t c h Stopped course e = halt _ _ _ _ _ _ _ _ _ _ _ _ _ r l _ _ _ _ c h _ e refl
+-- ---- the two loops over the placements of partition j
+module _ (d : Desk) (limit j : ℕ) where
+  -- before module m: what is left gives what the search gives from `from`
+  pub record ByModule (from c : Course) (m : ℕ) : Type 0 where
+    pub rows : Rows d.sheet.head.partitions d.sheet.head.modules (width_of d) (fits_by d) limit j
+        from.plan.modules from.plan.starts from.tries c.plan.modules c.plan.starts c.tries m
+
+  -- before start t of module m: what is left gives what the tries of module m give from `from`
+  pub record ByStart (from c : Course) (m t : ℕ) : Type 0 where
+    pub cols : Cols d.sheet.head.partitions d.sheet.head.modules (width_of d) (fits_by d) limit j
+        from.plan.modules from.plan.starts from.tries c.plan.modules c.plan.starts c.tries m t
+
+  pub begins : (c : Course) → Ready d c.plan.modules j → ByModule c c 0
+  begins c ready = record { rows = begin _ _ _ _ _ _ _ _ _ ready.left }
+
+  pub enters : (c : Course) (m : ℕ) → ByStart c c m 0
+  enters c m = record { cols = enter _ _ _ _ _ _ _ _ _ _ }
+
+  pub ends : (from c : Course) (m : ℕ) → ByModule from c m → d.sheet.head.modules ≤ m → Searched d limit j (under_way from) (under_way c)
+  ends from c m by h = done _ _ _ _ _ _ _ _ _ _ _ _ _ by.rows h
+
+  module _ (begun c : Course) (m t : ℕ) (in_turn : ByStart begun c m t) where
+    -- a try may be made
+    pub still_taken_up : (host : Host) (from : Course) → Ready d from.plan.modules j → TakenUp d begun.plan.modules j host → TakenUp d c.plan.modules j host
+    still_taken_up host from ready up = taken_alike d _ _ j host (λ i l. sym (in_turn.cols.kept.same i l)) (ready.laid.far j ready.left) up
+
+    pub still_ready : (from : Course) → Ready d from.plan.modules j → ByModule from begun m → Ready d c.plan.modules j
+    still_ready from ready by =
+        ready_alike _ _ _ (ready_alike _ _ _ ready _ by.rows.kept.long by.rows.kept.same) _ in_turn.cols.kept.long in_turn.cols.kept.same
+
+    module _ (on : ℕ) (same : on ≡ m) (l : t ≤ at d.times.periods j - at d.times.budgets j) where
+      -- a try that ends nothing leads to the next start
+      pub turns : (c' : Course) → Tried d limit j on t (under_way c) (under_way c') → ByStart begun c' m (t + 1)
+      turns c' e = record { cols = turn _ _ _ _ _ _ _ _ _ _ _ _ _ _ in_turn.cols (omega arith) _ (rw same at e) refl refl }
+
+      module _ (from : Course) (by : ByModule from begun m) (h : m < d.sheet.head.modules) where
+        -- and behind the last one to the next module
+        pub turns_last : (c' : Course) → at d.times.periods j - at d.times.budgets j ≤ t → Tried d limit j on t (under_way c) (under_way c')
+            → ByModule from c' (m + 1)
+        turns_last c' last e = record { rows = leave _ _ _ _ _ _ _ _ _ _ _ _ _ by.rows h _ _ _ _ (turns c' e).cols (omega arith) }
+
+        -- one that ends the search ends it over all placements
+        pub breaks : (end : End) (c' : Course) → Tried d limit j on t (under_way c) (ended end c') → Searched d limit j (under_way from) (ended end c')
+        breaks Found c' e = hit _ _ _ _ _ _ _ _ _ _ _ _ _ by.rows h _ _ _ _ in_turn.cols (omega arith) _ (rw same at e) refl
+        breaks Stopped c' e = halt _ _ _ _ _ _ _ _ _ _ _ _ _ by.rows h _ _ _ _ in_turn.cols (omega arith) _ (rw same at e) refl

@@ -65,7 +65,7 @@ impl Host {
 
 // Every placement of partition j in turn: by module, then start, ascending.
 #[cycle(attempt_over)]
-#[tactic(auto, using(tries::proofs::Going::begin, tries::proofs::Going::done))]
+#[tactic(auto, using(crate::proofs::Steps::begins, crate::proofs::Steps::enters, crate::proofs::Steps::ends, crate::proofs::Steps::still_taken_up, crate::proofs::Steps::still_ready, crate::proofs::Steps::breaks))]
 pub fn over(desk: &Desk, limit: u32, course: &mut Course, j: usize) -> ControlFlow<End>
     requires { Ready desk.now course.old.plan.modules j }
     ensures { Searched desk.now limit j (under_way course.old) (standing result course.new) }
