@@ -1,6 +1,6 @@
 -- What the inner functions ask holds: the desk of a fair sheet is laid, and each try can be tested. Assumes nothing.
 use mathlib.Core.Path.{◌≡◌, sym, ◌∙◌, ap}
-use mathlib.Core.Bool.{Bool}
+use mathlib.Core.Bool.{Bool, true}
 use mathlib.Core.List.{List}
 use Prim.Native.Nat.{ℕ, ◌+◌, ◌-◌, ◌≤◌, ◌<◌}
 use native.Mathlib.Omega.{arith}
@@ -16,7 +16,7 @@ use lib.Dec.{eqb}
 use borrow.Author.Tests.{eqb-true}
 use Rattle.sets.specs.Members.{member}
 use Rattle.sets.proofs.Laws.{in_set}
-use Rattle.judge.specs.Constraints.{at}
+use Rattle.judge.specs.Constraints.{at, is_on}
 use Rattle.judge.specs.Asked.{Placed}
 use Rattle.judge.specs.Verdict.{chain_at}
 use Rattle.sound.specs.Desk.{desk_of, last_of, held_on, admits_on, fits_where, fits_by}
@@ -26,6 +26,10 @@ use Rattle.sound.specs.Asked.{Askable, Testable, Laid, Ready}
 use Rattle.sound.proofs.Alike.{Alike, held_alike, admits_alike}
 use Rattle.sound.proofs.Exact.{some_period, budget_within, period_short}
 use Rattle.sound.proofs.Tables.{ordered, divisor_at, partners_at, endings_at, member_at_most}
+
+-- those on the module are before j
+pub held_before : (ms : List ℕ) (m j held i : ℕ) → held ≡ held_on ms m j → member held i ≡ true → i < j
+held_before ms m j held i e y = (in_set (is_on ms m) j i (ap (λ x. member x i) (sym e) ∙ y)).0
 
 module _ (d : Desk) (ms : List ℕ) (j : ℕ) (r : Ready d ms j) where
   pub inside : j < most_partitions

@@ -5,5 +5,4 @@ pub mod Hereditary
 pub mod Exact
 pub mod Tables
 pub mod Judges
-pub mod Tested
 pub mod Laid

@@ -80,7 +80,7 @@ impl Desk {
 
     // The placement of partition j fits those of the partitions before it. `held` are those of them that are on its module, and `admitted` says whether
     // the module admits it.
-    #[tactic(auto, using(crate::proofs::Tested::held_before), unfolding(crate::specs::Desk::fits_where))]
+    #[tactic(auto, using(crate::proofs::Laid::held_before), unfolding(crate::specs::Desk::fits_where))]
     pub fn fits(&self, plan: &Plan, held: u64, admitted: bool, j: usize) -> bool
         requires testable { Testable self.now plan.now.modules j }
         requires held_value { held ≡ held_on plan.now.modules (at plan.now.modules j) j }
