@@ -1,7 +1,6 @@
 // Going over one partition's placements, and trying one placement. They call each other: the next partition is taken up only from inside a try,
-// and partitions left fall, so calls nest at most 64 partitions deep. The partial plan and the number of tries are lent to every try; nothing but
-// a chain that is complete is copied in one. Which partitions are on a module, and whether it admits one more, is worked out once for all starts
-// on it.
+// and partitions left fall, so calls nest at most 64 partitions deep. Desk, partial plan and number of tries are lent, so nothing is copied in a
+// try. Which partitions are on a module, and whether it admits one more, is worked out once for all starts on it.
 ghost use Rattle.std.specs.Prelude.{◌≡◌, ◌<◌};
 ghost use Rattle.sound.specs.Asked.{Ready};
 ghost use Rattle.search.specs.Standing.{nothing_placed, under_way, standing, TakenUp, Searched, Tried};
