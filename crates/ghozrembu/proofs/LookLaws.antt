@@ -1,9 +1,12 @@
 -- What a look gives, by the branch that its code takes.
 -- Assumes nothing.
-use mathlib.Core.Path.{◌≡◌, refl}
+use mathlib.Core.Path.{◌≡◌, refl, ap}
 use mathlib.Core.List.{List}
 use Prim.Native.Nat.{ℕ, zero, suc, ◌+◌, ◌*◌, ◌≤◌, ◌<◌}
-use lib.ListN.{length}
+use native.Mathlib.Omega.{arith}
+use lib.ListN.{length, get_or}
+use Rattle.std.specs.Int.{w32, from_be_bytes}
+use Rattle.bits.proofs.Laws.{field_in_two, field_of_byte}
 use borrow.Author.Tests.{eq-eqb, ne_eqb, le-leb, lt-leb, lt-ltb, le-ltb}
 use Rattle.bits.specs.Field.{field_of}
 use Rattle.model.specs.declared.records.Head.{Head}
@@ -16,9 +19,21 @@ use Rattle.ghozrembu.specs.declared.looks.Counts.{Counts}
 use Rattle.ghozrembu.specs.Looks.{counts_of, table_at, slot_at, budget_of}
 
 module _ (b : List ℕ) where
-  pub budget_of_four : {x y : ℕ} → length b ≡ 4 → x ≡ field_of b 0 16 → y ≡ field_of b 16 16 → x * 65536 + y ≡ budget_of b
+  -- two bytes are a field of 16 bits
+  two_bytes : (i : ℕ) → ((i : ℕ) → get_or b i 0 < 256) → field_of b (8 * i) 16 ≡ get_or b i 0 * 256 + get_or b (i + 1) 0
+  two_bytes i small =
+      let next : 8 * i + 8 ≡ 8 * (i + 1) = omega arith in
+      omega (
+        arith,
+        field_in_two b (8 * i) 8 8,
+        field_of_byte b i (small i),
+        ap (λ (p : ℕ). field_of b p 8) next,
+        field_of_byte b (i + 1) (small (i + 1)),
+      )
+
+  pub budget_of_four : length b ≡ 4 → ((i : ℕ) → get_or b i 0 < 256) → {c : List ℕ} → c ≡ b → from_be_bytes w32 c ≡ budget_of b
   unfolding budget_of
-  budget_of_four e g h = rw (eq-eqb (length b) 4 e, g, h)
+  budget_of_four e small g = rw (g, eq-eqb (length b) 4 e) (omega (arith, two_bytes 0 small, two_bytes 2 small))
 
   pub budget_of_others : (length b ≡ 4 → ⊥) → 0 ≡ budget_of b
   unfolding budget_of

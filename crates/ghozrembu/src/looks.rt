@@ -62,9 +62,8 @@ pub fn slot_at(table: &[u8], i: u32) -> Slot
 pub fn budget_of(bytes: &[u8]) -> u32
     ensures { result ≡ budget_of bytes.now }
 {
-    if bytes.len() == 4 {
-        bits::field(bytes, 0, 16) * 65536 + bits::field(bytes, 16, 16)
-    } else {
-        0
+    match <[u8; 4]>::try_from(bytes) {
+        Ok(four) => u32::from_be_bytes(four),
+        Err(_) => 0,
     }
 }
