@@ -1,7 +1,7 @@
 use Rattle.std.proofs.Common.{rules, ℕ, get_or}
 use Rattle.model.specs.Widths.{partition_number_bits}
 use Rattle.model.specs.Decoded.{large, members_large}
-use Rattle.model.proofs.records.Chain.members_large.Goals as goal
+use Rattle.model.proofs.records.Chain.check_members.Goals as goal
 
 pub returns : goal.returns
 unfolding members_large
