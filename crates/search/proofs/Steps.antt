@@ -1,5 +1,5 @@
--- Steps of the search: what was asked of a module holds as long as the partitions before j stay, and a try that ends the search ends the search over
--- its partition. Assumes nothing.
+-- The steps of the code's search over a course: the ways of one try, and of the two loops over the placements of partition j (`Tried` and `Going` of
+-- crates/tries have them of any search). Assumes nothing.
 use mathlib.Core.Path.{◌≡◌, refl, sym, ◌∙◌}
 use mathlib.Core.List.{List}
 use Prim.Native.Nat.{ℕ, ◌+◌, ◌-◌, ◌<◌, ◌≤◌}
@@ -22,6 +22,7 @@ use Rattle.search.specs.declared.attempts.Host.{Host}
 use Rattle.search.specs.declared.attempts.End.{End}
 use Rattle.search.specs.declared.attempts.End.TheVariants.{Found, Stopped}
 
+-- what was asked of a module holds as long as the partitions before j stay where they are
 pub taken_alike : (d : Desk) (ms ms' : List ℕ) (j : ℕ) (host : Host) → Alike j ms ms'
     → ((i : ℕ) → i < places → member (at d.far j) i ≡ true → i < j)
     → TakenUp d ms j host → TakenUp d ms' j host
