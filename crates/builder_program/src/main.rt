@@ -55,9 +55,9 @@ fn print_module(
 
 fn main(rt: HostRuntime) -> io::Result<()> {
     let mut sheet_bytes = [0u8; files::MOST_BYTES];
-    let sheet = files::load(&rt, "sheet.bin", &mut sheet_bytes);
+    let sheet = files::load(&rt, b"sheet.bin", &mut sheet_bytes);
     let mut plan_bytes = [0u8; files::MOST_BYTES];
-    let plan = files::load(&rt, "plan.bin", &mut plan_bytes);
+    let plan = files::load(&rt, b"plan.bin", &mut plan_bytes);
     let judged = ghozrembu::judge(sheet, plan);
     let answer = Answer::from(judged);
     println!(rt; "{} {} {}", answer.number, answer.first, answer.second)?;

@@ -12,10 +12,14 @@ pub const MOST_BYTES: usize = 4_096;
 
 // The file at `path`, as the front of `buffer` that it fills. A missing file reads as empty, and of a longer one than the buffer the
 // front is read: a buffer longer than the longest sheet and plan keeps the answer.
-pub fn load<'a>(rt: &impl Files, path: &str, buffer: &'a mut [u8]) -> &'a [u8]
+// Kept: a path of bytes, since a `&str` would ask more of callers.
+pub fn load<'a>(rt: &impl Files, path: &[u8], buffer: &'a mut [u8]) -> &'a [u8]
     ensures { length result.now ≤ length buffer.old }
 {
-    match fs::open(rt, path) {
+    let Ok(name) = str::from_utf8(path) else {
+        return &[];
+    };
+    match fs::open(rt, name) {
         Ok(mut file) => read_full(&mut file, buffer),
         Err(_) => &[],
     }
@@ -47,7 +51,7 @@ pub fn save(rt: &(impl Files + Eprint), path: &[u8], bytes: &[u8]) {
 
 // The program's first argument, in `buffer`; None where there is none, it is empty or it does not fit.
 pub fn argument<'a>(rt: &impl Env, buffer: &'a mut [u8]) -> Option<&'a [u8]>
-    ensures { IfSome result (λ path. length path.now ≤ length buffer.old) }
+    ensures { IfSome result (λ path. (1 ≤ length path.now) × (length path.now ≤ length buffer.old)) }
 {
     match rt.arg(1, buffer) {
         Ok(n) if n > 0 => Some(&buffer[..n]),

@@ -6,9 +6,9 @@ use std::io;
 
 fn main(rt: HostRuntime) -> io::Result<()> {
     let mut sheet_bytes = [0u8; files::MOST_BYTES];
-    let sheet = files::load(&rt, "sheet.bin", &mut sheet_bytes);
+    let sheet = files::load(&rt, b"sheet.bin", &mut sheet_bytes);
     let mut plan_bytes = [0u8; files::MOST_BYTES];
-    let plan = files::load(&rt, "plan.bin", &mut plan_bytes);
+    let plan = files::load(&rt, b"plan.bin", &mut plan_bytes);
     let answer = Answer::from(ghozrembu::judge(sheet, plan));
     println!(rt; "{} {} {}", answer.number, answer.first, answer.second)
 }

@@ -24,10 +24,10 @@ fn save_plan(rt: &(impl Files + Env + Eprint), plan: &[u8]) {
 
 fn main(rt: HostRuntime) -> io::Result<()> {
     let mut sheet_bytes = [0u8; files::MOST_BYTES];
-    let sheet = files::load(&rt, "sheet.bin", &mut sheet_bytes);
+    let sheet = files::load(&rt, b"sheet.bin", &mut sheet_bytes);
     // A byte more than a budget has, so that a longer file is seen to be one.
     let mut budget_bytes = [0u8; 5];
-    let budget = ghozrembu::budget_of(files::load(&rt, "budget.bin", &mut budget_bytes));
+    let budget = ghozrembu::budget_of(files::load(&rt, b"budget.bin", &mut budget_bytes));
     let mut plan_bytes = [0u8; Plan::BYTES];
     let found = ghozrembu::search(sheet, budget, &mut plan_bytes);
     println!(rt; "{} {}", numbers::number_of(found.outcome), found.tries)?;
