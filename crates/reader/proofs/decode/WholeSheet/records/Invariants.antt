@@ -2,7 +2,7 @@
 use Rattle.std.proofs.Common.{◌≡◌}
 use Rattle.layout.specs.Layout.{chain_at}
 use Rattle.layout.specs.Values.{chains_by}
-use Rattle.reader.proofs.decode.Accepted.records.Given as goal
+use Rattle.reader.proofs.decode.WholeSheet.records.Given as goal
 
 abbrev pub invariant-loop-i : goal.invariant-loop-i
 invariant-loop-i l =
