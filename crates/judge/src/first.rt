@@ -1,4 +1,5 @@
 // The first of some places at which a test fails, and what is broken there.
+// Kept: a count and a test as two parameters: a struct of them would be made at each call only to be taken apart again.
 ghost use Rattle.std.specs.Prelude.{◌≡◌, ℕ, ◌-◌, ◌≤◌, ◌<◌, ◌^◌, Bool, IfSome};
 ghost use Rattle.judge.specs.Answers.{broken_as, verdict_of};
 ghost use Rattle.judge.specs.Places.{fails_from, first_fail, found};

@@ -6,6 +6,8 @@ ghost use Rattle.model.specs.Columns.{periods_of, budgets_of};
 use model::columns;
 use model::records::Sheet;
 
+// Kept: two arrays beside the sheet's records: `verdict`, `Ready` and the theorems of specs/Meaning take periods and budgets as lists, since
+// grown budgets will be judged too.
 #[derive(Clone, Copy)]
 pub struct Times {
     pub periods: [u32; Sheet::PARTITIONS],

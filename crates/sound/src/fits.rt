@@ -9,7 +9,7 @@ ghost use Rattle.sound.specs.Desk.{held_on, room_in, farther, admits_on, clear_w
 ghost use Rattle.sound.specs.Asked.{Divisible, ChainPlaced, Askable, Testable};
 
 use crate::desk::Desk;
-use crate::those::those;
+use crate::set_of::set_of;
 use judge::chains::delay_over;
 use model::records::Plan;
 
@@ -18,7 +18,7 @@ pub fn beside(plan: &Plan, m: u32, j: usize) -> u64
     requires { j < most_partitions }
     ensures { result ≡ held_on plan.now.modules m j }
 {
-    those(j, |i| plan.modules[i] == m)
+    set_of(j, |i| plan.modules[i] == m)
 }
 
 impl Desk {
@@ -78,8 +78,8 @@ impl Desk {
         delay_over(chain, &self.times, &plan.modules, &self.delays) <= u64::from(chain.limit)
     }
 
-    // The placement of partition j fits those of the partitions before it. `held` are those of them that are on its module, and `admitted` says whether
-    // the module admits it.
+    // The placement of partition j fits those of the partitions before it. `held` are those of them that are on its module, and `admitted` says
+    // whether the module admits it.
     #[tactic(auto, using(crate::proofs::Laid::held_before), unfolding(crate::specs::Desk::fits_where))]
     pub fn fits(&self, plan: &Plan, held: u64, admitted: bool, j: usize) -> bool
         requires testable { Testable self.now plan.now.modules j }

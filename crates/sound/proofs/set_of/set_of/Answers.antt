@@ -1,8 +1,8 @@
 use Rattle.std.proofs.Common.{arith, ◌≡◌, refl, sym, ◌∙◌}
 use Rattle.sets.specs.Members.{sum_below}
 use Rattle.sets.proofs.Laws.{set_joins, set_stays}
-use Rattle.sound.proofs.those.those.Goals as goal
-use Rattle.sound.proofs.those.those.Goals.{then-keeps, else-keeps}
+use Rattle.sound.proofs.set_of.set_of.Goals as goal
+use Rattle.sound.proofs.set_of.set_of.Goals.{then-keeps, else-keeps}
 
 pub loop-i-init : goal.loop-i-init
 unfolding sum_below

@@ -3,7 +3,7 @@ ghost use Rattle.std.specs.Prelude.{◌≡◌, ℕ, ◌≤◌, ◌<◌, Bool};
 ghost use Rattle.sets.specs.Members.{places, set_of};
 
 // The set of those of the first n that are kept.
-pub fn those<F: Fn(usize) -> bool>(n: usize, keeps: F) -> u64
+pub fn set_of<F: Fn(usize) -> bool>(n: usize, keeps: F) -> u64
     requires room { n ≤ places }
     requires callable { (i : ℕ) → i < n → F.pre keeps i }
     ensures { (f : ℕ → Bool) → ((i : ℕ) (b : _) → i < n → F.post keeps i b → b ≡ f i) → result ≡ set_of f n }
