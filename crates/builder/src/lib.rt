@@ -62,6 +62,5 @@ pub fn build(
         times: &Times::of(&s),
         plan: &p,
     };
-    let length = hosted.build(buffer)?;
-    Ok(length)
+    Ok(hosted.build(buffer)?)
 }

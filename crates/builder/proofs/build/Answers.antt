@@ -60,13 +60,13 @@ build-requires c =
     let e = set_is a.p.modules a.s.head.partitions a.m c.hosted-sets.ensures (below g c.in_ok-refuse_if.ensures) in
     found_hosted a.s a.d a.p g a.m c.of.ensures.periods c.of.ensures.budgets e
 
-pub returns-in_err-length-clause-built : goal.returns-in_err-length-clause-built
-returns-in_err-length-clause-built c =
+pub returns-in_err-build-clause-built : goal.returns-in_err-build-clause-built
+returns-in_err-build-clause-built c =
     let a = c.args in
     let z = zero c.in_ok-judge.ensures in
     let g = good a.s a.d a.p z in
     let e = found_parts a.s a.d a.p g a.m c.of.ensures.periods c.of.ensures.budgets (set_is a.p.modules a.s.head.partitions a.m c.hosted-sets.ensures (below g c.in_ok-refuse_if.ensures)) in
-    let is = c.in_err-length.ensures.0 ∙ room_returned a.s a.d a.p a.m (length a.buffer.now) z e c.in_ok-refuse_if.ensures in
+    let is = c.in_err-build.ensures.0 ∙ room_returned a.s a.d a.p a.m (length a.buffer.now) z e c.in_ok-refuse_if.ensures in
     (search (rules, is), c.build.ensures.1 ∙ room_left a.s a.d a.p a.m (length a.buffer.now) z e c.in_ok-refuse_if.ensures a.buffer.now)
 
 pub returns-clause-built : goal.returns-clause-built
@@ -75,6 +75,6 @@ returns-clause-built c =
     let z = zero c.in_ok-judge.ensures in
     let g = good a.s a.d a.p z in
     let e = found_parts a.s a.d a.p g a.m c.of.ensures.periods c.of.ensures.budgets (set_is a.p.modules a.s.head.partitions a.m c.hosted-sets.ensures (below g c.in_ok-refuse_if.ensures)) in (
-      c.in_ok-length.ensures.0 ∙ room_returned a.s a.d a.p a.m (length a.buffer.now) z e c.in_ok-refuse_if.ensures,
+      c.in_ok-build.ensures.0 ∙ room_returned a.s a.d a.p a.m (length a.buffer.now) z e c.in_ok-refuse_if.ensures,
       c.build.ensures.1 ∙ room_left a.s a.d a.p a.m (length a.buffer.now) z e c.in_ok-refuse_if.ensures a.buffer.now,
     )
