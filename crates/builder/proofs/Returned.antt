@@ -1,17 +1,16 @@
 -- 21, 22 and 23 by cases, and what is returned and left in each.
 -- Assumes nothing.
 use mathlib.Core.Path.{◌≡◌, refl, ap, sym, ◌∙◌}
-use mathlib.Core.Bool.{Bool, true, false}
 use mathlib.Core.List.{List, ◌++◌}
-use Prim.Native.Nat.{ℕ, zero, suc, ◌+◌, ◌*◌, ◌/◌, ◌≤◌, ◌<◌}
+use Prim.Native.Nat.{ℕ, zero, suc, ◌/◌, ◌≤◌, ◌<◌}
 use native.Mathlib.Decide.{dec_lt}
 use native.Mathlib.Omega.{arith}
 use lib.Dec.{ltb, leb}
 use lib.ListN.{length, drop}
 use borrow.Author.Tests.{lt-ltb, ltb-false}
-use Rattle.numbers.specs.Numbers.{fine, no_such_module, frame_too_large, too_many_slots, buffer_too_short}
-use Rattle.numbers.specs.First.{broken, met, met_stop, met_go}
-use Rattle.table.specs.Layout.{most_frame, most_slots, head_size, slot_size, table_bytes}
+use Rattle.numbers.specs.Numbers.{fine, no_such_module}
+use Rattle.numbers.specs.First.{broken, met_stop, met_go}
+use Rattle.table.specs.Layout.{most_frame, most_slots, table_bytes}
 use Rattle.frames.specs.Frame.{Part, All, Fine, Module, total, frame, slots_of}
 use Rattle.frames.proofs.Length.{slots_length}
 use Rattle.model.specs.declared.records.Sheet.{Sheet}
@@ -56,26 +55,12 @@ module _ {m : ℕ} (ps : List Part) (e : m ≡ 0) where
   left_built d = sym (ap (λ (j : ℕ). left j ps d) e)
 
 -- a frame that is found, or is past a table's field, is as far from it as the frame is
-frame_tested : (ps : List Part) {f : ℕ} → FrameFound ps f → ltb most_frame f ≡ ltb most_frame (frame ps)
+pub frame_tested : (ps : List Part) {f : ℕ} → FrameFound ps f → ltb most_frame f ≡ ltb most_frame (frame ps)
 frame_tested ps {f} w = go (dec_lt most_frame f)
   where
     go : Dec (most_frame < f) → ltb most_frame f ≡ ltb most_frame (frame ps)
     go (yes l) = lt-ltb _ _ l ∙ sym (lt-ltb _ _ (w.past l))
     go (no l) = ap (ltb most_frame) (w.exact (omega arith))
-
--- the numbers, in their order, of a frame that is found and a count of slots that is right where the frame has room
-pub room_by : (ps : List Part) (n : ℕ) {f c : ℕ} → FrameFound ps f → (f ≤ most_frame → c ≡ length (slots_of ps))
-    → room_number ps n
-    ≡ met (broken (ltb most_frame f) frame_too_large)
-    (met (broken (ltb most_slots c) too_many_slots) (broken (ltb n (head_size + slot_size * c)) buffer_too_short))
-unfolding room_number met
-room_by ps n {f} {c} w g = go (ltb most_frame f) refl (frame_tested ps w)
-  where
-    go : (b : Bool) → ltb most_frame f ≡ b → b ≡ ltb most_frame (frame ps) → room_number ps n
-        ≡ met (broken b frame_too_large)
-        (met (broken (ltb most_slots c) too_many_slots) (broken (ltb n (head_size + slot_size * c)) buffer_too_short))
-    go true e t = rw (← t) refl
-    go false e t = rw (← t, g (ltb-false _ _ e)) refl
 
 -- the count of slots that the code has
 pub count_is : (ps : List Part) → All Fine ps → {f r : ℕ} → f ≡ frame ps → r ≡ total (λ (p : Part). f / p.period) ps → r ≡ length (slots_of ps)

@@ -43,6 +43,7 @@ impl From<Result<usize, Failure>> for Built {
 
 // The table of one module of a plan, written at the front of the buffer: its length. The judge's failure comes first, then 20, 21, 22 and 23.
 // Kept: sheet, delays and plan by value, as document 01 names the delays ("sixteen rows of sixteen by value"); inside all is lent.
+#[tactic(auto, using(numbers::proofs::Refused::number_some, crate::proofs::Returned::failure_some, crate::proofs::Returned::returned_refused, crate::proofs::Returned::left_refused, crate::proofs::Returned::number_judged, crate::proofs::Returned::number_module))]
 pub fn build(
     s: Sheet,
     d: [[u16; Sheet::MODULES]; Sheet::MODULES],
@@ -61,6 +62,5 @@ pub fn build(
         times: &Times::of(&s),
         plan: &p,
     };
-    let length = hosted.build(buffer)?;
-    Ok(length)
+    Ok(hosted.build(buffer)?)
 }

@@ -19,6 +19,7 @@ fn length_of(t: Table) -> usize
 
 impl<'a> Hosted<'a> {
     // The head of their table, where a table has room for their frame and slots and a buffer of n bytes for the table.
+    #[tactic(auto, using(crate::proofs::Returned::frame_tested, crate::proofs::Returned::count_is, crate::proofs::Returned::ready_by, crate::proofs::Returned::within), unfolding(numbers::specs::First::met, crate::specs::Built::room_number))]
     pub fn room(&self, n: usize) -> Result<Table, Refusal>
         requires { Module (parts self.now) }
         ensures number { number_of result ≡ room_number (parts self.now) n }
@@ -38,6 +39,7 @@ impl<'a> Hosted<'a> {
     }
 
     // Writes their table where there is room for it: its length.
+    #[tactic(auto, using(numbers::proofs::Refused::number_some, crate::proofs::Returned::returned_refused, crate::proofs::Returned::left_refused, crate::proofs::Returned::returned_built, crate::proofs::Returned::left_built))]
     pub fn build(&self, buffer: &mut [u8]) -> Result<usize, Refusal>
         requires { Module (parts self.now) }
         ensures { (room_as result ≡ returned (room_number (parts self.now) (length buffer.old)) (parts self.now))

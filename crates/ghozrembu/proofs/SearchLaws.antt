@@ -8,6 +8,7 @@ use lib.Dec.{eqb}
 use lib.ListN.{length}
 use borrow.Author.Tests.{ne_eqb}
 use Rattle.numbers.specs.First.{met_hit}
+use Rattle.model.specs.declared.records.Sheet.{Sheet}
 use Rattle.layout.specs.Values.{sheet_of, delays_of}
 use Rattle.reader.specs.Number.{Reading, sheet_number, sheet_read, delays_read}
 use Rattle.reader.proofs.Outcome.{read_number, read_sheet, read_delays}
@@ -35,6 +36,7 @@ kept_same sheet budget buffer e =
     ap (λ (k : ℕ). elim (eqb k 0) [ true ↦ written (partitions_in sheet) (answer_in sheet budget) buffer | false ↦ buffer ])
     (same_refusal sheet (length buffer) e)
 
+-- a sheet that is refused
 module _ (sheet : List ℕ) {r : Reading} (e : r ≡ sheet_read sheet) (budget : ℕ) (buffer : List ℕ) where
   module _ (n : r.number ≡ 0 → ⊥) where
     refused_first : refusal_in sheet (length buffer) ≡ r.number
@@ -56,15 +58,17 @@ module _ (sheet : List ℕ) {r : Reading} (e : r ≡ sheet_read sheet) (budget :
         subst (λ (t : Bool). buffer ≡ elim t [ true ↦ written (partitions_in sheet) (answer_in sheet budget) buffer | false ↦ buffer ])
         (sym refuses) refl
 
-  module _ (z : r.number ≡ 0) {d : List (List ℕ)} (before : List (List ℕ)) (g : d ≡ delays_read sheet before) where
-    sheet_zero : sheet_number sheet ≡ 0
-    sheet_zero = sym (read_number sheet e) ∙ z
+-- a sheet that is read
+module _ (sheet : List ℕ) {s : Sheet} (e : ◌≡◌ {A = Reading} (record { number = 0; sheet = s }) (sheet_read sheet)) {d : List (List ℕ)} (before : List (List ℕ))
+  (g : d ≡ delays_read sheet before) (budget : ℕ) where
+  sheet_zero : sheet_number sheet ≡ 0
+  sheet_zero = sym (read_number sheet e)
 
-    delays_are : d ≡ delays_of sheet
-    delays_are = g ∙ read_delays sheet e before z
+  delays_are : d ≡ delays_of sheet
+  delays_are = g ∙ read_delays sheet e before refl
 
-    pub value_found : found_of r.sheet d budget (length buffer) ≡ found_bytes sheet budget (length buffer)
-    value_found = rw (read_sheet sheet e z, delays_are) (found_same sheet budget (length buffer) sheet_zero)
+  pub value_found : (room : ℕ) → found_of s d budget room ≡ found_bytes sheet budget room
+  value_found room = rw (read_sheet sheet e refl, delays_are) (found_same sheet budget room sheet_zero)
 
-    pub value_kept : buffer_after r.sheet d budget buffer ≡ buffer_found sheet budget buffer
-    value_kept = rw (read_sheet sheet e z, delays_are) (kept_same sheet budget buffer sheet_zero)
+  pub value_kept : (buffer : List ℕ) → buffer_after s d budget buffer ≡ buffer_found sheet budget buffer
+  value_kept buffer = rw (read_sheet sheet e refl, delays_are) (kept_same sheet budget buffer sheet_zero)

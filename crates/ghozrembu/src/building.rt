@@ -10,6 +10,7 @@ use judge::Failure;
 use model::records::Sheet;
 
 // The table of one module, at the front of the lent buffer: its length. Nothing is written on a failure.
+#[tactic(auto, using(numbers::proofs::Refused::number_some, crate::proofs::JudgeLaws::by_reading, crate::proofs::JudgeLaws::by_values, crate::proofs::BuildLaws::refused_built, crate::proofs::BuildLaws::refused_buffer, crate::proofs::BuildLaws::value_built, crate::proofs::BuildLaws::value_buffer))]
 pub fn build(sheet: &[u8], plan: &[u8], m: usize, buffer: &mut [u8]) -> Result<usize, Failure>
     ensures built { (built_as result ≡ built_bytes sheet.now plan.now m buffer.old)
         × (buffer.new ≡ buffer_built sheet.now plan.now m buffer.old) }

@@ -18,6 +18,7 @@ pub fn check_sheet(sheet: &[u8]) -> Result<(), Refusal>
 }
 
 // The verdict on a plan.
+#[tactic(auto, using(numbers::proofs::Refused::number_some, crate::proofs::JudgeLaws::by_reading, crate::proofs::JudgeLaws::by_values))]
 pub fn judge(sheet: &[u8], plan: &[u8]) -> Result<(), Failure>
     ensures { answer_of result ≡ judged_bytes sheet.now plan.now }
 {

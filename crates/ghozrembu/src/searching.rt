@@ -7,6 +7,7 @@ use model::records::Sheet;
 use search::Searched;
 
 // The first accepted plan within a budget of tries, at the front of the lent buffer; nothing is written where none is found.
+#[tactic(auto, using(numbers::proofs::Refused::number_some, crate::proofs::SearchLaws::refused_found, crate::proofs::SearchLaws::refused_kept, crate::proofs::SearchLaws::value_found, crate::proofs::SearchLaws::value_kept))]
 pub fn search(sheet: &[u8], budget: u32, buffer: &mut [u8]) -> Searched
     ensures { (found_as result ≡ found_bytes sheet.now budget (length buffer.old))
         × (buffer.new ≡ buffer_found sheet.now budget buffer.old) }

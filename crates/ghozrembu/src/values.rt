@@ -11,6 +11,7 @@ use model::records::{Plan, Sheet};
 use numbers::Refusal;
 
 // The sheet, then the plan; the delays go to the lent rows.
+#[tactic(auto, using(numbers::proofs::Refused::number_some, reader::proofs::Outcome::read_sheet, reader::proofs::Outcome::read_delays, crate::proofs::JudgeLaws::sheet_first, crate::proofs::JudgeLaws::sheet_room, crate::proofs::JudgeLaws::both_number, crate::proofs::JudgeLaws::both_plan))]
 pub fn read_both(
     sheet: &[u8],
     plan: &[u8],

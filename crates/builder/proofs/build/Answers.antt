@@ -4,21 +4,17 @@ use Rattle.std.proofs.Common.{rules, ap, sym, arith, ◌∙◌, ◌≡◌, ℕ, 
 use borrow.Author.Tests.{leb-false}
 use Rattle.numbers.specs.Numbers.{no_such_module}
 use Rattle.numbers.specs.First.{broken}
-use Rattle.numbers.specs.Refusals.{number}
-use Rattle.numbers.proofs.Refused.{number_some}
 use Rattle.table.proofs.Numbers.{unbroken}
 use Rattle.sets.specs.Members.{set_of}
 use Rattle.model.specs.Limits.{most_modules}
 use Rattle.model.specs.declared.records.Sheet.{Sheet}
 use Rattle.model.specs.declared.records.Plan.{Plan}
 use Rattle.judge.specs.declared.Answer.{Answer}
-use Rattle.judge.specs.Answers.{failed_as}
 use Rattle.judge.specs.Verdict.{accepted}
 use Rattle.judge.specs.Hosted.{sets_on}
 use Rattle.judge.specs.Constraints.{is_on}
 use Rattle.judge.proofs.Hosting.{set_at}
-use Rattle.builder.specs.Built.{parts_on}
-use Rattle.builder.proofs.Returned.{returned_refused, left_refused, number_judged, number_module, room_returned, room_left, failure_some}
+use Rattle.builder.proofs.Returned.{room_returned, room_left}
 use Rattle.builder.proofs.Hosted.{Good, good, on_a_module, found_parts, found_timed, found_hosted}
 use lib.Dec.{leb}
 use Rattle.builder.proofs.build.Goals as goal
@@ -34,22 +30,6 @@ below g e = let h = leb-false _ _ (unbroken _ 19 (sym e)) in omega (arith, g.fai
 -- the set of module m's partitions
 set_is : (ms : List ℕ) (n m : ℕ) {sets : List ℕ} → sets ≡ sets_on ms n → m < most_modules → get_or sets m 0 ≡ set_of (is_on ms m) n
 set_is ms n m e h = ap (λ (l : List ℕ). get_or l m 0) e ∙ set_at ms n m h
-
-pub returns-in_err-judge-clause-built : goal.returns-in_err-judge-clause-built
-returns-in_err-judge-clause-built c =
-    let a = c.args in
-    let f = c.in_err-judge.field-0.0 in
-    let ps = parts_on a.s a.p a.m in
-    let e = number_judged a.s a.d a.p a.m (length a.buffer.now) (ap (λ (x : Answer). x.number) c.in_err-judge.ensures) (failure_some f) in
-    (search (rules, returned_refused (failed_as f).number ps e (failure_some f)), left_refused (failed_as f).number ps e (failure_some f) a.buffer.now)
-
-pub returns-in_err-refuse_if-clause-built : goal.returns-in_err-refuse_if-clause-built
-returns-in_err-refuse_if-clause-built c =
-    let a = c.args in
-    let r = c.in_err-refuse_if.field-0.0 in
-    let ps = parts_on a.s a.p a.m in
-    let e = number_module a.s a.d a.p a.m (length a.buffer.now) (zero c.in_ok-judge.ensures) c.in_err-refuse_if.ensures (number_some r) in
-    (search (rules, returned_refused (number r) ps e (number_some r)), left_refused (number r) ps e (number_some r) a.buffer.now)
 
 pub hosted-sets-requires-clause-n_le_most_partitions : goal.hosted-sets-requires-clause-n_le_most_partitions
 hosted-sets-requires-clause-n_le_most_partitions c = (good _ _ _ (zero c.in_ok-judge.ensures)).fair.head.inside.partitions
@@ -80,13 +60,13 @@ build-requires c =
     let e = set_is a.p.modules a.s.head.partitions a.m c.hosted-sets.ensures (below g c.in_ok-refuse_if.ensures) in
     found_hosted a.s a.d a.p g a.m c.of.ensures.periods c.of.ensures.budgets e
 
-pub returns-in_err-length-clause-built : goal.returns-in_err-length-clause-built
-returns-in_err-length-clause-built c =
+pub returns-in_err-build-clause-built : goal.returns-in_err-build-clause-built
+returns-in_err-build-clause-built c =
     let a = c.args in
     let z = zero c.in_ok-judge.ensures in
     let g = good a.s a.d a.p z in
     let e = found_parts a.s a.d a.p g a.m c.of.ensures.periods c.of.ensures.budgets (set_is a.p.modules a.s.head.partitions a.m c.hosted-sets.ensures (below g c.in_ok-refuse_if.ensures)) in
-    let is = c.in_err-length.ensures.0 ∙ room_returned a.s a.d a.p a.m (length a.buffer.now) z e c.in_ok-refuse_if.ensures in
+    let is = c.in_err-build.ensures.0 ∙ room_returned a.s a.d a.p a.m (length a.buffer.now) z e c.in_ok-refuse_if.ensures in
     (search (rules, is), c.build.ensures.1 ∙ room_left a.s a.d a.p a.m (length a.buffer.now) z e c.in_ok-refuse_if.ensures a.buffer.now)
 
 pub returns-clause-built : goal.returns-clause-built
@@ -95,6 +75,6 @@ returns-clause-built c =
     let z = zero c.in_ok-judge.ensures in
     let g = good a.s a.d a.p z in
     let e = found_parts a.s a.d a.p g a.m c.of.ensures.periods c.of.ensures.budgets (set_is a.p.modules a.s.head.partitions a.m c.hosted-sets.ensures (below g c.in_ok-refuse_if.ensures)) in (
-      c.in_ok-length.ensures.0 ∙ room_returned a.s a.d a.p a.m (length a.buffer.now) z e c.in_ok-refuse_if.ensures,
+      c.in_ok-build.ensures.0 ∙ room_returned a.s a.d a.p a.m (length a.buffer.now) z e c.in_ok-refuse_if.ensures,
       c.build.ensures.1 ∙ room_left a.s a.d a.p a.m (length a.buffer.now) z e c.in_ok-refuse_if.ensures a.buffer.now,
     )
