@@ -17,9 +17,9 @@ use Rattle.model.specs.None.{no_partition}
 use Rattle.model.specs.Fair.{Fair}
 use Rattle.model.specs.Decoded.{starts_number, large}
 use Rattle.model.specs.Columns.{periods_of, budgets_of}
+use Rattle.model.specs.declared.records.Partition.{Partition}
 use Rattle.model.specs.declared.records.Sheet.{Sheet}
 use Rattle.model.specs.declared.records.Plan.{Plan}
-use Rattle.model.specs.declared.columns.Column.TheVariants.{Period, Budget}
 use Rattle.model.proofs.Fairness.{large_fits, number_fair}
 use Rattle.model.proofs.ColumnLaws.{column_at}
 use Rattle.judge.specs.declared.Answer.{Answer}
@@ -63,10 +63,10 @@ module _ (s : Sheet) (delays : List (List ℕ)) (p : Plan) (g : Good s delays p)
 
   module _ (i : ℕ) (l : i < s.head.partitions) where
     period_is : at (periods_of s) i ≡ (get_or s.partitions i no_partition).period
-    period_is = column_at Period s.partitions s.head.partitions i l few
+    period_is = column_at (λ (q : Partition). q.period) s.partitions s.head.partitions i l few
 
     budget_is : at (budgets_of s) i ≡ (get_or s.partitions i no_partition).budget
-    budget_is = column_at Budget s.partitions s.head.partitions i l few
+    budget_is = column_at (λ (q : Partition). q.budget) s.partitions s.head.partitions i l few
 
     pub period_fits : (1 ≤ at (periods_of s) i) × (at (periods_of s) i < 2 ^ 16)
     period_fits =

@@ -1,14 +1,18 @@
 -- What the builder returns and writes.
 -- Assumes nothing.
-use Rattle.std.specs.Prelude.{List, ◌++◌, ℕ, zero, suc, ◌+◌, ◌*◌, leb, ltb, length, drop}
+use Rattle.std.specs.Prelude.{Result, Ok, Err, List, ◌++◌, ℕ, zero, suc, ◌+◌, ◌*◌, leb, ltb, length, drop}
 use Rattle.numbers.specs.Numbers.{fine, no_such_module, frame_too_large, too_many_slots, buffer_too_short}
 use Rattle.numbers.specs.First.{broken, met}
+use Rattle.numbers.specs.Refusals.{number}
+use Rattle.numbers.specs.declared.Refusal.{Refusal}
 use Rattle.sets.specs.Members.{kept}
 use Rattle.model.specs.Columns.{periods_of, budgets_of}
 use Rattle.model.specs.declared.records.Sheet.{Sheet}
 use Rattle.model.specs.declared.records.Plan.{Plan}
 use Rattle.judge.specs.Constraints.{is_on}
 use Rattle.judge.specs.Verdict.{judged}
+use Rattle.judge.specs.Answers.{failed_as}
+use Rattle.judge.specs.declared.Failure.{Failure}
 use Rattle.table.specs.Layout.{most_frame, most_slots, head_size, slot_size, table_bytes}
 use Rattle.frames.specs.Frame.{Part, frame, slots_of}
 use Rattle.builder.specs.Parts.{part_at}
@@ -39,6 +43,15 @@ built_number s delays p m n =
 -- "the builder writes the table and returns its length"; "Numeric results are 0 where none is named above."
 abbrev pub refused : ℕ → Built
 refused k = record { number = k; length = 0 }
+
+-- a length, or why there is no table
+abbrev pub room_as : Result ℕ Refusal → Built
+room_as (Ok n) = record { number = fine; length = n }
+room_as (Err refusal) = refused (number refusal)
+
+abbrev pub built_as : Result ℕ Failure → Built
+built_as (Ok n) = record { number = fine; length = n }
+built_as (Err failure) = refused (failed_as failure).number
 
 unfoldable pub returned : ℕ → List Part → Built
 returned zero ps = record { number = fine; length = size_of ps }

@@ -1,4 +1,5 @@
 pub mod Parts
 pub mod Asked
+pub mod OnModule
 pub mod Built
 pub mod Demand

@@ -3,19 +3,21 @@
 #![tactic(auto)]
 
 ghost use Rattle.std.specs.Prelude.{◌≡◌};
-ghost use Rattle.builder.specs.Built.{built_of, buffer_of};
+ghost use Rattle.builder.specs.Built.{built_as, built_of, buffer_of};
 
 pub mod frame;
+pub mod parts;
 pub mod room;
 pub mod slots;
 
-use crate::room::{build_set, refused};
-use judge::judge;
-use judge::rooms::hosted;
-use model::columns;
+use crate::parts::Hosted;
+use judge::times::Times;
+use judge::{Answer, Failure, judge, rooms};
 use model::records::{Plan, Sheet};
+use numbers::{Refusal, refuse_if};
 
 // The number, and how many bytes the table has where that is 0.
+// Kept: a number with a length beside it and no `Result`, since C reads both.
 #[repr(C)]
 #[derive(Clone, Copy)]
 pub struct Built {
@@ -23,28 +25,39 @@ pub struct Built {
     pub length: usize,
 }
 
-// The table of one module of a plan: the judge's number first, then 20, 21, 22 and 23.
+impl From<Result<usize, Failure>> for Built {
+    ghost from_gives = { λ outcome built. built ≡ built_as outcome };
+
+    fn from(outcome: Result<usize, Failure>) -> Built {
+        match outcome {
+            Ok(length) => Built { number: 0, length },
+            Err(failure) => Built {
+                number: Answer::from(failure).number,
+                length: 0,
+            },
+        }
+    }
+}
+
+// The table of one module of a plan, written at the front of the buffer: its length. The judge's failure comes first, then 20, 21, 22 and 23.
+// Kept: sheet, delays and plan by value, as document 01 names the delays ("sixteen rows of sixteen by value"); inside all is lent.
 pub fn build(
     s: Sheet,
     d: [[u16; Sheet::MODULES]; Sheet::MODULES],
     p: Plan,
     m: usize,
     buffer: &mut [u8],
-) -> Built
-    ensures { (result ≡ built_of s d p m buffer.old) × (buffer.new ≡ buffer_of s d p m buffer.old) }
+) -> Result<usize, Failure>
+    ensures { (built_as result ≡ built_of s d p m buffer.old) × (buffer.new ≡ buffer_of s d p m buffer.old) }
 {
-    let a = judge(s, d, p);
-    if a.number != 0 {
-        return refused(a.number);
-    }
-    let h = s.head;
-    if m >= h.modules {
-        return refused(numbers::NO_SUCH_MODULE);
-    }
-    let periods = columns::periods(s);
-    let budgets = columns::budgets(s);
-    let modules = p.modules;
-    let starts = p.starts;
-    let sets = hosted(h.partitions, &modules);
-    build_set(sets[m], &starts, &periods, &budgets, buffer)
+    judge(s, d, p)?;
+    refuse_if(m >= s.head.modules, Refusal::NoSuchModule)?;
+    let sets = rooms::hosted(s.head.partitions, &p.modules);
+    let hosted = Hosted {
+        set: sets[m],
+        times: &Times::of(&s),
+        plan: &p,
+    };
+    let length = hosted.build(buffer)?;
+    Ok(length)
 }

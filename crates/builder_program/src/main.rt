@@ -3,6 +3,7 @@
 // each built table is also written to that prefix followed by the module's number in two digits and `.bin`.
 #![tactic(auto)]
 
+use judge::Answer;
 use std::io;
 use std::rt::{Env, Files};
 use table::Table;
@@ -40,15 +41,16 @@ fn print_module(
     module: usize,
 ) -> io::Result<()> {
     let mut table = [0u8; TABLE_BYTES];
-    let built = ghozrembu::build(sheet, plan, module, &mut table);
-    if built.number != 0 {
-        return println!(rt; "{module} {} 0 0", built.number);
+    match ghozrembu::build(sheet, plan, module, &mut table) {
+        Ok(length) => {
+            // No table is longer than the buffer, which `build` does not promise.
+            let table = &table[..length.min(TABLE_BYTES)];
+            print_table(rt, table, module)?;
+            save_table(rt, table, module);
+            Ok(())
+        }
+        Err(failure) => println!(rt; "{module} {} 0 0", Answer::from(failure).number),
     }
-    // No table is longer than the buffer, which `build` does not promise.
-    let table = &table[..built.length.min(TABLE_BYTES)];
-    print_table(rt, table, module)?;
-    save_table(rt, table, module);
-    Ok(())
 }
 
 fn main(rt: HostRuntime) -> io::Result<()> {
@@ -56,9 +58,10 @@ fn main(rt: HostRuntime) -> io::Result<()> {
     let sheet = files::load(&rt, "sheet.bin", &mut sheet_bytes);
     let mut plan_bytes = [0u8; files::MOST_BYTES];
     let plan = files::load(&rt, "plan.bin", &mut plan_bytes);
-    let answer = ghozrembu::judge(sheet, plan);
+    let judged = ghozrembu::judge(sheet, plan);
+    let answer = Answer::from(judged);
     println!(rt; "{} {} {}", answer.number, answer.first, answer.second)?;
-    if answer.number == 0 {
+    if judged.is_ok() {
         for module in 0..ghozrembu::counts_of(sheet).modules {
             print_module(&rt, sheet, plan, module)?;
         }

@@ -2,6 +2,8 @@
 // 1,024 slots, whose frame is near the largest, is built, stepped over several frames and compared with the covering partition at each tick.
 #![tactic(auto)]
 
+use builder::Built;
+use judge::Failure;
 use model::records::{Head, Module, Partition, Plan, Sheet};
 use std::io;
 use table::records::{Position, Table};
@@ -73,22 +75,26 @@ fn misses(table: &[u8]) -> u64 {
     wrong
 }
 
+// A line with the number and the length of a table, or 0 where it is refused.
+fn print_built(rt: &impl Print, built: Result<usize, Failure>) -> io::Result<()> {
+    let built = Built::from(built);
+    println!(rt; "{} {}", built.number, built.length)
+}
+
 fn main(rt: HostRuntime) -> io::Result<()> {
     let delays = [[0u16; Sheet::MODULES]; Sheet::MODULES];
     let mut buffer = [0u8; 8_192];
     let many = sheet(&[partition(2, 1), partition(4_096, 1)]);
     let full = builder::build(many, delays, plan(&[0, 1]), 0, &mut buffer);
-    println!(rt; "{} {}", full.number, full.length)?;
+    print_built(&rt, full)?;
     let long = sheet(&[
         partition(65_280, 30),
         partition(65_280, 30),
         partition(32_896, 40),
     ]);
     let built = builder::build(long, delays, plan(&[0, 30, 60]), 0, &mut buffer);
-    println!(rt; "{} {}", built.number, built.length)?;
-    let wrong = match buffer.get(..built.length) {
-        Some(table) => misses(table),
-        None => TICKS,
-    };
+    print_built(&rt, built)?;
+    let table = built.ok().and_then(|length| buffer.get(..length));
+    let wrong = table.map_or(TICKS, misses);
     println!(rt; "{wrong}")
 }

@@ -7,8 +7,7 @@ use lib.ListN.{length}
 use Rattle.model.specs.Decoded.{decoded_number}
 use Rattle.model.specs.declared.records.Plan.{Plan}
 use Rattle.model.specs.declared.records.Sheet.{Sheet}
-use Rattle.reader.specs.Number.{sheet_number, sheet_read, delays_read}
-use Rattle.reader.specs.declared.Reading.{Reading}
+use Rattle.reader.specs.Number.{Reading, sheet_number, sheet_read, delays_read}
 use Rattle.judge.specs.Verdict.{judged}
 use Rattle.search.specs.Answer.{found_of, buffer_after}
 use Rattle.builder.specs.Built.{built_of, buffer_of}

@@ -6,6 +6,7 @@ use Prim.Native.Nat.{ℕ, zero, suc, ◌+◌, ◌*◌, ◌≤◌, ◌<◌}
 use lib.ListN.{length}
 use borrow.Author.Tests.{eq-eqb, ne_eqb, le-leb, lt-leb, lt-ltb, le-ltb}
 use Rattle.bits.specs.Field.{field_of}
+use Rattle.model.specs.declared.records.Head.{Head}
 use Rattle.layout.specs.Values.{head_of}
 use Rattle.reader.specs.Number.{sheet_number, accepted}
 use Rattle.table.specs.Layout.{head_size, slot_size, most_slots, table_of, slot_of, no_slot}
@@ -52,7 +53,7 @@ module _ (b : List ℕ) where
       go zero n = absurd (n refl)
       go (suc x) n = refl
 
-  pub counts_stand : {x : ℕ} {m n : ℕ} → x ≡ sheet_number b → x ≡ 0 → m ≡ (head_of b).modules → n ≡ (head_of b).partitions
-      → ◌≡◌ {A = Counts} (record { modules = m; partitions = n }) (counts_of b)
+  pub counts_stand : {h : Head} → 0 ≡ sheet_number b → h ≡ head_of b
+      → ◌≡◌ {A = Counts} (record { modules = h.modules; partitions = h.partitions }) (counts_of b)
   unfolding counts_of
-  counts_stand e z g h = rw (sym e ∙ z, g, h)
+  counts_stand e g = rw (← e, g) refl

@@ -9,8 +9,7 @@ use lib.ListN.{length}
 use borrow.Author.Tests.{ne_eqb}
 use Rattle.numbers.specs.First.{met_hit}
 use Rattle.layout.specs.Values.{sheet_of, delays_of}
-use Rattle.reader.specs.Number.{sheet_number, sheet_read, delays_read}
-use Rattle.reader.specs.declared.Reading.{Reading}
+use Rattle.reader.specs.Number.{Reading, sheet_number, sheet_read, delays_read}
 use Rattle.reader.proofs.Outcome.{read_number, read_sheet, read_delays}
 use Rattle.reader.proofs.Passing.{sheet_passes}
 use Rattle.search.specs.Answer.{refusal_of, found_of, buffer_after, answered, written}

@@ -1,7 +1,6 @@
 -- The judge on bytes. Document 01, "Numbers returned": "Judge: sheet, 18, C1 to C8."
 -- Assumes nothing.
-use Rattle.std.specs.Prelude.{List, ℕ, ◌≡◌}
-use Rattle.numbers.specs.First.{met}
+use Rattle.std.specs.Prelude.{List, ℕ}
 use Rattle.model.specs.Columns.{periods_of, budgets_of}
 use Rattle.model.specs.declared.records.Plan.{Plan}
 use Rattle.model.specs.declared.records.Sheet.{Sheet}
@@ -10,7 +9,6 @@ use Rattle.reader.specs.Number.{sheet_number}
 use Rattle.reader.specs.Plan.{plan_number, plan_of}
 use Rattle.judge.specs.Verdict.{refused, or_next, verdict}
 use Rattle.judge.specs.declared.Answer.{Answer}
-use Rattle.ghozrembu.specs.declared.values.Values.{Values}
 
 -- how many partitions the sheet has
 abbrev pub partitions_in : List ℕ → ℕ
@@ -28,10 +26,3 @@ judged_bytes sheet plan =
     or_next (refused (sheet_number sheet))
     (or_next (refused (plan_number plan (partitions_in sheet)))
     (verdict_of sheet plan))
-
--- what reading both gives: the first number met, and the values where none is
-pub record ReadBoth (sheet plan : List ℕ) (v : Values) (delays : List (List ℕ)) : Type 0 where
-  pub number : v.number ≡ met (sheet_number sheet) (plan_number plan (partitions_in sheet))
-  pub sheet_is : v.number ≡ 0 → v.sheet ≡ sheet_of sheet
-  pub plan_is : v.number ≡ 0 → v.plan ≡ plan_of plan (partitions_in sheet)
-  pub delays_are : v.number ≡ 0 → delays ≡ delays_of sheet

@@ -1,23 +1,18 @@
 // The builder on bytes: the judge's numbers, then 20, 21, 22, 23.
 ghost use Rattle.std.specs.Prelude.{◌≡◌};
+ghost use Rattle.builder.specs.Built.{built_as};
 ghost use Rattle.ghozrembu.specs.BuiltBytes.{built_bytes, buffer_built};
 
 use crate::values::read_both;
-use builder::Built;
+use judge::Failure;
 use model::records::Sheet;
 
-// The table of one module, at the front of the lent buffer; nothing is written on a refusal.
-pub fn build(sheet: &[u8], plan: &[u8], m: usize, buffer: &mut [u8]) -> Built
-    ensures { (result ≡ built_bytes sheet.now plan.now m buffer.old)
+// The table of one module, at the front of the lent buffer: its length. Nothing is written on a failure.
+pub fn build(sheet: &[u8], plan: &[u8], m: usize, buffer: &mut [u8]) -> Result<usize, Failure>
+    ensures { (built_as result ≡ built_bytes sheet.now plan.now m buffer.old)
         × (buffer.new ≡ buffer_built sheet.now plan.now m buffer.old) }
 {
-    let mut delays = [[0u16; Sheet::MODULES]; Sheet::MODULES];
-    let v = read_both(sheet, plan, &mut delays);
-    if v.number != 0 {
-        return Built {
-            number: v.number,
-            length: 0,
-        };
-    }
-    builder::build(v.sheet, delays, v.plan, m, buffer)
+    let mut delays = [[0; Sheet::MODULES]; Sheet::MODULES];
+    let (s, p) = read_both(sheet, plan, &mut delays)?;
+    builder::build(s, delays, p, m, buffer)
 }

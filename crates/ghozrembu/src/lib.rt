@@ -10,6 +10,6 @@ mod searching;
 mod values;
 
 pub use building::build;
-pub use judging::{judge, sheet_number};
+pub use judging::{check_sheet, judge};
 pub use looks::{Counts, budget_of, counts_of, slot_at, table_at};
 pub use searching::search;

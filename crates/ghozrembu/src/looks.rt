@@ -15,16 +15,18 @@ pub struct Counts {
 pub fn counts_of(sheet: &[u8]) -> Counts
     ensures { result ≡ counts_of sheet.now }
 {
-    if reader::number(sheet) != 0 {
-        return Counts {
+    match reader::check(sheet) {
+        Ok(()) => {
+            let head = layout::values::head_of(sheet);
+            Counts {
+                modules: head.modules,
+                partitions: head.partitions,
+            }
+        }
+        Err(_) => Counts {
             modules: 0,
             partitions: 0,
-        };
-    }
-    let head = layout::values::head_of(sheet);
-    Counts {
-        modules: head.modules,
-        partitions: head.partitions,
+        },
     }
 }
 

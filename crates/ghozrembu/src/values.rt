@@ -1,39 +1,26 @@
 // A sheet and a plan read together: what the judge and the builder begin with.
-ghost use Rattle.ghozrembu.specs.Judged.{ReadBoth};
+ghost use Rattle.std.specs.Prelude.{◌≡◌, IfOk};
+ghost use Rattle.numbers.specs.First.{met};
+ghost use Rattle.numbers.specs.Refusals.{number_of};
+ghost use Rattle.layout.specs.Values.{sheet_of, delays_of};
+ghost use Rattle.reader.specs.Number.{sheet_number};
+ghost use Rattle.reader.specs.Plan.{plan_number, plan_of};
+ghost use Rattle.ghozrembu.specs.Judged.{partitions_in};
 
 use model::records::{Plan, Sheet};
-
-// The number of the two, and their values where that is 0.
-#[derive(Clone, Copy)]
-pub struct Values {
-    pub number: u8,
-    pub sheet: Sheet,
-    pub plan: Plan,
-}
+use numbers::Refusal;
 
 // The sheet, then the plan; the delays go to the lent rows.
 pub fn read_both(
     sheet: &[u8],
     plan: &[u8],
     delays: &mut [[u16; Sheet::MODULES]; Sheet::MODULES],
-) -> Values
-    ensures { ReadBoth sheet.now plan.now result delays.new }
+) -> Result<(Sheet, Plan), Refusal>
+    ensures number { number_of result ≡ met (sheet_number sheet.now) (plan_number plan.now (partitions_in sheet.now)) }
+    ensures values { IfOk result (λ v. (v.0 ≡ sheet_of sheet.now) × (v.1 ≡ plan_of plan.now (partitions_in sheet.now))) }
+    ensures delays { IfOk result (λ _. delays.new ≡ delays_of sheet.now) }
 {
-    let s = reader::read(sheet, delays);
-    let values = s.sheet;
-    if s.number != 0 {
-        return Values {
-            number: s.number,
-            sheet: values,
-            plan: Plan::none(),
-        };
-    }
-    let head = values.head;
-    let p = reader::plan::read_plan(plan, head.partitions);
-    let placed = p.plan;
-    Values {
-        number: p.number,
-        sheet: values,
-        plan: placed,
-    }
+    let values = reader::read(sheet, delays)?;
+    let placed = reader::plan::read_plan(plan, values.head.partitions)?;
+    Ok((values, placed))
 }

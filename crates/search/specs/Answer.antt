@@ -1,8 +1,10 @@
 -- What the search answers: document 01, "The search and its tries" and "Numbers returned". Nothing here runs a search.
 -- Assumes nothing.
-use Rattle.std.specs.Prelude.{true, false, List, ◌++◌, ℕ, ltb, eqb, length, drop}
+use Rattle.std.specs.Prelude.{true, false, List, ◌++◌, ℕ, Result, ltb, eqb, length, drop}
 use Rattle.numbers.specs.First.{met, broken}
 use Rattle.numbers.specs.Numbers as numbers
+use Rattle.numbers.specs.Refusals.{number_of}
+use Rattle.numbers.specs.declared.Refusal.{Refusal}
 use Rattle.lists.specs.Filled.{filled}
 use Rattle.model.specs.Decoded.{decoded_number}
 use Rattle.model.specs.declared.records.Sheet.{Sheet}
@@ -11,6 +13,14 @@ use Rattle.judge.specs.Constraints.{at}
 use Rattle.tries.specs.Tries.{Answer, found, absent, stopped, answer}
 use Rattle.sound.specs.Sound.{choices, sound, modules_in, starts_in}
 use Rattle.search.specs.declared.Found.{Found}
+use Rattle.search.specs.declared.Searched.{Searched}
+
+-- what the code says in the two numbers: 0, or the number of a refusal, and the tries made
+abbrev pub ended_as : {A : Type 0} → Result A Refusal → (tries : ℕ) → Found
+ended_as outcome k = record { number = number_of outcome; tries = k }
+
+abbrev pub found_as : Searched → Found
+found_as r = ended_as r.outcome r.tries
 
 -- the answer of the search over a sheet, with the number of tries made
 unfoldable pub answer_of : Sheet → (delays : List (List ℕ)) → (budget : ℕ) → Answer (ℕ × ℕ)

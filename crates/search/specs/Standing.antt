@@ -1,16 +1,33 @@
--- What the code returns and leaves in its two columns, as the standing of a search. Assumes nothing.
-use Rattle.std.specs.Prelude.{List, ℕ, ◌+◌, ◌-◌, ◌≤◌, ◌≡◌, length}
-use Rattle.tries.specs.Code.{Standing, attempt_of, search_of, shown}
+-- What the code returns and leaves in what it was lent, as the standing of a search. Assumes nothing.
+use Rattle.std.specs.Prelude.{true, false, List, ℕ, ◌+◌, ◌-◌, ◌≤◌, ◌≡◌, length}
+use Rattle.std.specs.declared.ops.ControlFlow.{ControlFlow}
+use Rattle.std.specs.declared.ops.ControlFlow.TheVariants.{Continue, Break}
+use Rattle.tries.specs.Code.{Standing, begun, attempt_of, search_of, shown}
 use Rattle.sound.specs.Desk.{width_of, fits_by}
 use Rattle.sound.specs.declared.desk.Desk.{Desk}
-use Rattle.model.specs.declared.records.Plan.{Plan}
+use Rattle.model.specs.None.{no_plan}
 use Rattle.model.specs.declared.records.Sheet.{Sheet}
 use Rattle.search.specs.Answer.{answer_of}
 use Rattle.model.specs.Limits.{most_partitions}
-use Rattle.search.specs.declared.attempts.Outcome.{Outcome}
+use Rattle.search.specs.declared.attempts.Course.{Course}
+use Rattle.search.specs.declared.attempts.End.{End}
+use Rattle.search.specs.declared.attempts.End.TheVariants.{Found, Stopped}
 
-abbrev pub standing : Outcome → Plan → Standing
-standing r p = record { found = r.found; stopped = r.stopped; tries = r.tries; modules = p.modules; starts = p.starts }
+-- "The empty plan is sound."
+abbrev pub nothing_placed : Course
+nothing_placed = record { plan = no_plan; tries = 0 }
+
+-- where a search stands that has not ended, and one that has
+abbrev pub under_way : Course → Standing
+under_way c = begun c.tries c.plan.modules c.plan.starts
+
+abbrev pub ended : End → Course → Standing
+ended Found c = record { found = true; stopped = false; tries = c.tries; modules = c.plan.modules; starts = c.plan.starts }
+ended Stopped c = record { found = false; stopped = true; tries = c.tries; modules = c.plan.modules; starts = c.plan.starts }
+
+abbrev pub standing : {A : Type 0} → ControlFlow End A → Course → Standing
+standing (Continue _) c = under_way c
+standing (Break e) c = ended e c
 
 -- `to` is where the search over the placements of partition j and of those after it ends that begins at `from`
 abbrev pub Searched : Desk → (limit j : ℕ) → (from to : Standing) → Type 0

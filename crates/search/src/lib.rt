@@ -3,17 +3,24 @@
 #![tactic(auto)]
 
 ghost use Rattle.std.specs.Prelude.{◌≡◌, length};
-ghost use Rattle.search.specs.Answer.{found_of, buffer_after};
+ghost use Rattle.search.specs.Answer.{found_as, found_of, buffer_after};
 
 pub mod attempts;
-pub mod run;
+mod run;
 
+use crate::attempts::Course;
 use crate::run::run;
-use model::decoded::sheet_number;
-use model::records::{Plan, Sheet};
-use reader::plan::{length_of, write_plan};
+use model::records::Sheet;
+use numbers::{Refusal, number_of};
 
-// What the search answers: its number (0 found, 26 no plan, 27 stopped, or that of a refusal) and the tries made.
+// Whether a plan was found, or why not, and the tries made.
+#[derive(Clone, Copy, Debug, PartialEq, Eq)]
+pub struct Searched {
+    pub outcome: Result<(), Refusal>,
+    pub tries: u32,
+}
+
+// The same in two numbers: 0 found, 26 no plan, 27 stopped, or that of another refusal, and the tries made.
 #[repr(C)]
 #[derive(Clone, Copy)]
 pub struct Found {
@@ -21,48 +28,32 @@ pub struct Found {
     pub tries: u32,
 }
 
+impl From<Searched> for Found {
+    ghost from_gives = { λ searched found. found ≡ found_as searched };
+
+    fn from(searched: Searched) -> Found {
+        Found {
+            number: number_of(searched.outcome),
+            tries: searched.tries,
+        }
+    }
+}
+
 // The search on decoded values. Found writes the plan at the front of the buffer; all else leaves the buffer alone.
+// Kept: sheet and delays by value, as document 01 names the delays ("sixteen rows of sixteen by value"); inside both are lent.
 pub fn search(
     s: Sheet,
     d: [[u16; Sheet::MODULES]; Sheet::MODULES],
     budget: u32,
     buffer: &mut [u8],
-) -> Found
-    ensures value { result ≡ found_of s d budget (length buffer.old) }
+) -> Searched
+    ensures value { found_as result ≡ found_of s d budget (length buffer.old) }
     ensures buffer_after { buffer.new ≡ buffer_after s d budget buffer.old }
 {
-    let refusal = sheet_number(s, d);
-    if refusal != 0 {
-        return Found {
-            number: refusal,
-            tries: 0,
-        };
-    }
-    let h = s.head;
-    let n = h.partitions;
-    if buffer.len() < length_of(n) {
-        return Found {
-            number: numbers::BUFFER_TOO_SHORT,
-            tries: 0,
-        };
-    }
-    let mut plan = Plan::none();
-    let o = run(&s, &d, budget, &mut plan);
-    if o.found {
-        write_plan(&plan.modules, &plan.starts, n, buffer);
-        return Found {
-            number: numbers::FINE,
-            tries: o.tries,
-        };
-    }
-    if o.stopped {
-        return Found {
-            number: numbers::STOPPED,
-            tries: o.tries,
-        };
-    }
-    Found {
-        number: numbers::NO_PLAN,
-        tries: o.tries,
+    let mut course = Course::empty();
+    let outcome = run(&s, &d, budget, &mut course, buffer);
+    Searched {
+        outcome,
+        tries: course.tries,
     }
 }

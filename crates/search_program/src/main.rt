@@ -30,15 +30,17 @@ fn main(rt: HostRuntime) -> io::Result<()> {
     let budget = ghozrembu::budget_of(files::load(&rt, "budget.bin", &mut budget_bytes));
     let mut plan_bytes = [0u8; Plan::BYTES];
     let found = ghozrembu::search(sheet, budget, &mut plan_bytes);
-    println!(rt; "{} {}", found.number, found.tries)?;
-    if found.number == 0 {
+    println!(rt; "{} {}", numbers::number_of(found.outcome), found.tries)?;
+    if found.outcome.is_ok() {
         // No sheet has more than that, which `counts_of` does not promise.
         let partitions = ghozrembu::counts_of(sheet)
             .partitions
             .min(Sheet::PARTITIONS);
         let plan = &plan_bytes[..reader::plan::length_of(partitions)];
-        let read = reader::plan::read_plan(plan, partitions);
-        print_plan(&rt, &read.plan, partitions)?;
+        // A found plan reads.
+        if let Ok(placed) = reader::plan::read_plan(plan, partitions) {
+            print_plan(&rt, &placed, partitions)?;
+        }
         save_plan(&rt, plan);
     }
     Ok(())

@@ -1,9 +1,18 @@
-use mathlib.Core.Path.{◌∙◌}
+use Rattle.std.proofs.Common.{rules, ◌∙◌, refl}
+use Rattle.numbers.proofs.Refused.{number_some}
 use Rattle.ghozrembu.proofs.BuildLaws.{refused_built, refused_buffer, value_built, value_buffer}
 use Rattle.ghozrembu.proofs.building.build.Goals as goal
 
-pub returns-then-v-ne0 : goal.returns-then-v-ne0
-returns-then-v-ne0 c = (refused_built _ _ c.read_both-v.ensures _ c.args.buffer.now c.if-v-ne0.true, refused_buffer _ _ c.read_both-v.ensures _ _ c.if-v-ne0.true)
+pub returns-in_err-s : goal.returns-in_err-s
+returns-in_err-s c =
+    let some = number_some c.in_err-s.field-0.0 in (
+      search (rules, refused_built _ _ c.in_err-s.ensures.number c.args.m c.args.buffer.now some),
+      refused_buffer _ _ c.in_err-s.ensures.number _ _ some,
+    )
 
 pub returns : goal.returns
-returns c = (c.build.ensures.0 ∙ value_built _ _ c.read_both-v.ensures _ _ c.if-v-ne0.false, c.build.ensures.1 ∙ value_buffer _ _ c.read_both-v.ensures _ _ c.if-v-ne0.false)
+returns c =
+    let v = c.in_ok-s.ensures in (
+      c.build.ensures.0 ∙ value_built _ _ v.number _ _ refl v.values.0 v.values.1 v.delays,
+      c.build.ensures.1 ∙ value_buffer _ _ v.number _ _ refl v.values.0 v.values.1 v.delays,
+    )

@@ -1,9 +1,17 @@
-use mathlib.Core.Path.{◌∙◌}
+use Rattle.std.proofs.Common.{◌∙◌, refl}
+use Rattle.numbers.proofs.Refused.{number_some}
 use Rattle.ghozrembu.proofs.SearchLaws.{refused_found, refused_kept, value_found, value_kept}
 use Rattle.ghozrembu.proofs.searching.search.Goals as goal
 
-pub returns-then-s-ne0 : goal.returns-then-s-ne0
-returns-then-s-ne0 c = (refused_found _ c.read-s.ensures.0 _ c.args.buffer.now c.if-s-ne0.true, refused_kept _ c.read-s.ensures.0 _ _ c.if-s-ne0.true)
+pub returns-in-Ok : goal.returns-in-Ok
+returns-in-Ok c =
+    let e = c.in-Ok.ensures.0 in (
+      c.search.ensures.value ∙ value_found _ e _ c.args.buffer.now refl _ c.read.ensures.1,
+      c.search.ensures.buffer_after ∙ value_kept _ e _ _ refl _ c.read.ensures.1,
+    )
 
-pub returns : goal.returns
-returns c = (c.search.ensures.value ∙ value_found _ c.read-s.ensures.0 _ c.args.buffer.now c.if-s-ne0.false _ c.read-s.ensures.1, c.search.ensures.buffer_after ∙ value_kept _ c.read-s.ensures.0 _ _ c.if-s-ne0.false _ c.read-s.ensures.1)
+pub returns-in-Err : goal.returns-in-Err
+returns-in-Err c =
+    let e = c.in-Err.ensures.0 in
+    let some = number_some c.in-Err.refusal in
+    (refused_found _ e _ c.args.buffer.now some, refused_kept _ e _ _ some)

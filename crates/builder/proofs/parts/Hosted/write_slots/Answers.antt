@@ -8,10 +8,10 @@ use Rattle.table.proofs.Bytes.{no_slot_yet}
 use Rattle.frames.specs.Frame.{slots_of}
 use Rattle.builder.specs.Parts.{parts_of}
 use Rattle.builder.proofs.Written.{all_left, turned, written_more}
-use Rattle.builder.proofs.slots.write_slots.Goals as goal
+use Rattle.builder.proofs.parts.Hosted.write_slots.Goals as goal
 
 pub loop-i-init : goal.loop-i-init
-loop-i-init c = (omega arith, no_slot_yet c.args.buffer.now, all_left (parts_of c.args.periods.now c.args.budgets.now c.args.starts.now c.args.set))
+loop-i-init c = (omega arith, no_slot_yet c.args.buffer.now, all_left (parts_of c.args.self.now.times.now.periods c.args.self.now.times.now.budgets c.args.self.now.plan.now.starts c.args.self.now.set))
 
 pub overflow_add-n : goal.overflow_add-n
 overflow_add-n c =
@@ -19,7 +19,7 @@ overflow_add-n c =
     let l = c.loop-i in
     let r = c.requires.ready in
     let b : l.i < a.t.slots = c.loop-i-test.true in
-    let t = turned a.periods.now a.budgets.now a.starts.now a.set a.t r l.n l.i c.soonest-x.result b l.invariant.0 l.invariant.2 c.soonest-x.ensures in
+    let t = turned a.self.now.times.now.periods a.self.now.times.now.budgets a.self.now.plan.now.starts a.self.now.set a.t r l.n l.i c.soonest-x.result b l.invariant.0 l.invariant.2 c.soonest-x.ensures in
     omega (arith, t.fits, r.frame_is, r.small)
 
 pub write_slot-requires-clause-start_le_most_frame : goal.write_slot-requires-clause-start_le_most_frame
@@ -28,7 +28,7 @@ write_slot-requires-clause-start_le_most_frame c =
     let l = c.loop-i in
     let r = c.requires.ready in
     let b : l.i < a.t.slots = c.loop-i-test.true in
-    let t = turned a.periods.now a.budgets.now a.starts.now a.set a.t r l.n l.i c.soonest-x.result b l.invariant.0 l.invariant.2 c.soonest-x.ensures in
+    let t = turned a.self.now.times.now.periods a.self.now.times.now.budgets a.self.now.plan.now.starts a.self.now.set a.t r l.n l.i c.soonest-x.result b l.invariant.0 l.invariant.2 c.soonest-x.ensures in
     t.small
 
 pub loop-i-preserved : goal.loop-i-preserved
@@ -37,8 +37,8 @@ loop-i-preserved c =
     let l = c.loop-i in
     let r = c.requires.ready in
     let b : l.i < a.t.slots = c.loop-i-test.true in
-    let t = turned a.periods.now a.budgets.now a.starts.now a.set a.t r l.n l.i c.soonest-x.result b l.invariant.0 l.invariant.2 c.soonest-x.ensures in
-    let xs = slots_of (parts_of a.periods.now a.budgets.now a.starts.now a.set) in (
+    let t = turned a.self.now.times.now.periods a.self.now.times.now.budgets a.self.now.plan.now.starts a.self.now.set a.t r l.n l.i c.soonest-x.result b l.invariant.0 l.invariant.2 c.soonest-x.ensures in
+    let xs = slots_of (parts_of a.self.now.times.now.periods a.self.now.times.now.budgets a.self.now.plan.now.starts a.self.now.set) in (
       omega (arith, t.fits, r.frame_is),
       c.write_slot.ensures
           ∙ written_more a.buffer.now xs l.i (omega (arith, r.slots_are)) (omega (arith, c.requires.slots_in_bounds)) c.soonest-x.result l.buffer l.invariant.1 t.before,
