@@ -2,7 +2,9 @@
 // slots are handed to the writer of `table`. It goes from slot to slot and never tick by tick.
 #![tactic(auto)]
 
-ghost use Rattle.std.specs.Prelude.{◌≡◌};
+ghost use Rattle.std.specs.Prelude.{◌≡◌, ◌≢◌};
+ghost use Rattle.judge.specs.Answers.{answer_of};
+ghost use Rattle.judge.specs.Verdict.{judged};
 ghost use Rattle.builder.specs.Built.{built_as, built_of, buffer_of};
 
 pub mod frame;
@@ -48,7 +50,8 @@ pub fn build(
     m: usize,
     buffer: &mut [u8],
 ) -> Result<usize, Failure>
-    ensures { (built_as result ≡ built_of s d p m buffer.old) × (buffer.new ≡ buffer_of s d p m buffer.old) }
+    ensures built { (built_as result ≡ built_of s d p m buffer.old) × (buffer.new ≡ buffer_of s d p m buffer.old) }
+    ensures judged { (judged s d p).number ≢ 0 → answer_of result ≡ judged s d p }
 {
     judge(s, d, p)?;
     refuse_if(m >= s.head.modules, Refusal::NoSuchModule)?;

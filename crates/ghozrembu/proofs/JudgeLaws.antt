@@ -16,7 +16,6 @@ use Rattle.reader.proofs.Fits.{head_inside, head_zero_holds}
 use Rattle.reader.proofs.Passing.{sheet_passes}
 use Rattle.reader.proofs.Plans.{plan_passes}
 use Rattle.judge.specs.Verdict.{refused, or_next, judged}
-use Rattle.judge.specs.declared.Answer.{Answer}
 use Rattle.judge.proofs.Stages.{or_pass, or_stop, or_go}
 use Rattle.ghozrembu.specs.Judged.{partitions_in, verdict_of, judged_bytes}
 

@@ -1,9 +1,8 @@
 // The calls on bytes: a sheet's and a plan's bytes to verdicts, plans and tables. Every byte string of every length gets its number
-// (document 01, "Numbers returned"). `c` has them under their names in C; the crate `ghozrembu_c` exports those.
+// (document 01, "Numbers returned"). The crate `ghozrembu_c` exports them to C.
 #![tactic(auto)]
 
 mod building;
-pub mod c;
 mod judging;
 mod looks;
 mod searching;

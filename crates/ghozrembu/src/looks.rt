@@ -12,6 +12,7 @@ pub struct Counts {
 }
 
 // M and N of a sheet; zeros where it is refused.
+#[tactic(auto, using(numbers::proofs::Refused::number_some, reader::proofs::Fits::head_fits, reader::proofs::Fits::head_zero_holds), unfolding(crate::specs::Looks::counts_of))]
 pub fn counts_of(sheet: &[u8]) -> Counts
     ensures { result ≡ counts_of sheet.now }
 {
@@ -31,6 +32,7 @@ pub fn counts_of(sheet: &[u8]) -> Counts
 }
 
 // The head of a table; zeros where the bytes end before it.
+#[tactic(auto, unfolding(crate::specs::Looks::table_at))]
 pub fn table_at(table: &[u8]) -> Table
     ensures { result ≡ table_at table.now }
 {
@@ -42,14 +44,13 @@ pub fn table_at(table: &[u8]) -> Table
 }
 
 // Slot i of a table; zeros where the bytes end before its end.
+#[tactic(auto, unfolding(crate::specs::Looks::slot_at))]
 pub fn slot_at(table: &[u8], i: u32) -> Slot
     ensures { result ≡ slot_at table.now i }
 {
-    if i < Table::SLOTS {
-        let end = Table::HEAD_BYTES + Table::SLOT_BYTES * (i as usize + 1);
-        if end <= table.len() {
-            return table::layout::slot_of(table, i);
-        }
+    let end = Table::HEAD_BYTES + Table::SLOT_BYTES * (i as usize + 1);
+    if i < Table::SLOTS && end <= table.len() {
+        return table::layout::slot_of(table, i);
     }
     Slot {
         start: 0,
@@ -59,12 +60,12 @@ pub fn slot_at(table: &[u8], i: u32) -> Slot
 }
 
 // A budget's 32 bits, most significant first; any other length means 0.
+#[tactic(auto, using(crate::proofs::LookLaws::budget_of_four), unfolding(crate::specs::Looks::budget_of))]
 pub fn budget_of(bytes: &[u8]) -> u32
     ensures { result ≡ budget_of bytes.now }
 {
-    if bytes.len() == 4 {
-        bits::field(bytes, 0, 16) * 65536 + bits::field(bytes, 16, 16)
-    } else {
-        0
+    match <[u8; 4]>::try_from(bytes) {
+        Ok(four) => u32::from_be_bytes(four),
+        Err(_) => 0,
     }
 }

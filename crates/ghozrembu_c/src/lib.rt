@@ -1,4 +1,5 @@
-// The C library: the calls as include/ghozrembu.h has them. Each calls the library's function and has its clauses.
+// The C library: the calls as include/ghozrembu.h has them. Each makes what C reads of the library's answer.
+// Kept: numbers and structs of numbers in place of `Result`, since C reads them.
 #![tactic(auto)]
 
 ghost use Rattle.std.specs.Prelude.{◌≡◌, length};
@@ -11,6 +12,7 @@ ghost use Rattle.ghozrembu.specs.FoundBytes.{found_bytes, buffer_found};
 
 use builder::Built;
 use judge::Answer;
+use numbers::number_of;
 use search::Found;
 use table::{Position, Stepped};
 
@@ -18,21 +20,21 @@ use table::{Position, Stepped};
 pub extern "C" fn ghozrembu_sheet_number(sheet: &[u8]) -> u8
     ensures { result ≡ sheet_number sheet.now }
 {
-    ghozrembu::c::ghozrembu_sheet_number(sheet)
+    number_of(ghozrembu::check_sheet(sheet))
 }
 
 #[unsafe(no_mangle)]
 pub extern "C" fn ghozrembu_judge(sheet: &[u8], plan: &[u8]) -> Answer
     ensures { result ≡ judged_bytes sheet.now plan.now }
 {
-    ghozrembu::c::ghozrembu_judge(sheet, plan)
+    Answer::from(ghozrembu::judge(sheet, plan))
 }
 
 #[unsafe(no_mangle)]
 pub extern "C" fn ghozrembu_table_number(table: &[u8]) -> u8
     ensures { result ≡ table_number table.now }
 {
-    ghozrembu::c::ghozrembu_table_number(table)
+    number_of(table::check_table(table))
 }
 
 #[unsafe(no_mangle)]
@@ -40,7 +42,7 @@ pub extern "C" fn ghozrembu_build(sheet: &[u8], plan: &[u8], m: usize, buffer: &
     ensures { (result ≡ built_bytes sheet.now plan.now m buffer.old)
         × (buffer.new ≡ buffer_built sheet.now plan.now m buffer.old) }
 {
-    ghozrembu::c::ghozrembu_build(sheet, plan, m, buffer)
+    Built::from(ghozrembu::build(sheet, plan, m, buffer))
 }
 
 #[unsafe(no_mangle)]
@@ -48,7 +50,7 @@ pub extern "C" fn ghozrembu_search(sheet: &[u8], budget: u32, buffer: &mut [u8])
     ensures { (result ≡ found_bytes sheet.now budget (length buffer.old))
         × (buffer.new ≡ buffer_found sheet.now budget buffer.old) }
 {
-    ghozrembu::c::ghozrembu_search(sheet, budget, buffer)
+    Found::from(ghozrembu::search(sheet, budget, buffer))
 }
 
 // One step of a table: the call itself updates the lent position, and leaves it as it is on a refusal.

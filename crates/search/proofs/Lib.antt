@@ -1,6 +1,6 @@
 pub mod Plans
 pub mod Gives
-pub mod Ends
+pub mod Steps
 pub mod Answers
 pub mod Theorems
 pub mod Calls

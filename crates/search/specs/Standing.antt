@@ -1,15 +1,16 @@
 -- What the code returns and leaves in what it was lent, as the standing of a search. Assumes nothing.
-use Rattle.std.specs.Prelude.{true, false, List, ℕ, ◌+◌, ◌-◌, ◌≤◌, ◌≡◌, length}
+use Rattle.std.specs.Prelude.{true, false, List, ℕ, ◌+◌, ◌-◌, ◌≤◌, ◌<◌, ◌≡◌, length}
 use Rattle.std.specs.declared.ops.ControlFlow.{ControlFlow}
 use Rattle.std.specs.declared.ops.ControlFlow.TheVariants.{Continue, Break}
 use Rattle.tries.specs.Code.{Standing, begun, attempt_of, search_of, shown}
-use Rattle.sound.specs.Desk.{width_of, fits_by}
+use Rattle.sound.specs.Desk.{width_of, held_on, admits_on, fits_by}
 use Rattle.sound.specs.declared.desk.Desk.{Desk}
 use Rattle.model.specs.None.{no_plan}
 use Rattle.model.specs.declared.records.Sheet.{Sheet}
 use Rattle.search.specs.Answer.{answer_of}
 use Rattle.model.specs.Limits.{most_partitions}
 use Rattle.search.specs.declared.attempts.Course.{Course}
+use Rattle.search.specs.declared.attempts.Host.{Host}
 use Rattle.search.specs.declared.attempts.End.{End}
 use Rattle.search.specs.declared.attempts.End.TheVariants.{Found, Stopped}
 
@@ -28,6 +29,12 @@ ended Stopped c = record { found = false; stopped = true; tries = c.tries; modul
 abbrev pub standing : {A : Type 0} → ControlFlow End A → Course → Standing
 standing (Continue _) c = under_way c
 standing (Break e) c = ended e c
+
+-- what is asked once of a module that is taken up for partition j
+pub record TakenUp (d : Desk) (ms : List ℕ) (j : ℕ) (host : Host) : Type 0 where
+  pub on : host.module < d.sheet.head.modules
+  pub held : host.held ≡ held_on ms host.module j
+  pub admitted : host.admitted ≡ admits_on d ms host.module j
 
 -- `to` is where the search over the placements of partition j and of those after it ends that begins at `from`
 abbrev pub Searched : Desk → (limit j : ℕ) → (from to : Standing) → Type 0

@@ -1,11 +1,9 @@
 // Going over one partition's placements, and trying one placement. They call each other: the next partition is taken up only from inside a try,
-// and partitions left fall, so calls nest at most 64 partitions deep. The partial plan and the number of tries are lent to every try; nothing but
-// a chain that is complete is copied in one. Which partitions are on a module, and whether it admits one more, is worked out once for all starts
-// on it.
+// and partitions left fall, so calls nest at most 64 partitions deep. Desk, partial plan and number of tries are lent, so nothing is copied in a
+// try. Which partitions are on a module, and whether it admits one more, is worked out once for all starts on it.
 ghost use Rattle.std.specs.Prelude.{◌≡◌, ◌<◌};
-ghost use Rattle.sound.specs.Desk.{held_on, admits_on};
 ghost use Rattle.sound.specs.Asked.{Ready};
-ghost use Rattle.search.specs.Standing.{nothing_placed, under_way, standing, Searched, Tried};
+ghost use Rattle.search.specs.Standing.{nothing_placed, under_way, standing, TakenUp, Searched, Tried};
 
 use model::records::Plan;
 use sound::desk::Desk;
@@ -38,48 +36,71 @@ impl Course {
     }
 }
 
+// A module that is taken up for partition j, and what is asked of it once for all starts: the partitions before j that are on it, and whether it
+// admits j.
+#[derive(Clone, Copy)]
+struct Host {
+    module: u32,
+    held: u64,
+    admitted: bool,
+}
+
+impl Host {
+    // Module m taken up for partition j.
+    fn of(desk: &Desk, plan: &Plan, m: u32, j: usize) -> Host
+        requires on { m < desk.now.sheet.head.modules }
+        requires ready { Ready desk.now plan.now.modules j }
+        ensures module { result.module ≡ m }
+        ensures taken_up { TakenUp desk.now plan.now.modules j result }
+    {
+        let held = beside(plan, m, j);
+        Host {
+            module: m,
+            held,
+            admitted: desk.admits(plan, m, held, j),
+        }
+    }
+}
+
 // Every placement of partition j in turn: by module, then start, ascending.
 #[cycle(attempt_over)]
+#[tactic(auto, using(crate::proofs::Steps::begins, crate::proofs::Steps::enters, crate::proofs::Steps::ends, crate::proofs::Steps::still_taken_up, crate::proofs::Steps::still_ready, crate::proofs::Steps::breaks))]
 pub fn over(desk: &Desk, limit: u32, course: &mut Course, j: usize) -> ControlFlow<End>
     requires { Ready desk.now course.old.plan.modules j }
     ensures { Searched desk.now limit j (under_way course.old) (standing result course.new) }
 {
     let last = desk.times.periods[j] - desk.times.budgets[j];
     for m in 0..desk.sheet.head.modules as u32 {
-        let held = beside(&course.plan, m, j);
-        let admitted = desk.admits(&course.plan, m, held, j);
+        let host = Host::of(desk, &course.plan, m, j);
         for t in 0..=last {
-            attempt(desk, limit, course, j, m, held, admitted, t)?;
+            attempt(desk, limit, course, j, &host, t)?;
         }
     }
     ControlFlow::Continue(())
 }
 
-// One try: partition j on module m with start t, and where that fits the partitions left. `held` are the partitions before j on module m, and
-// `admitted` says whether it admits j.
+// One try: partition j on the module of `host` with start t, and where that fits the partitions left.
 #[cycle(attempt_over)]
+#[tactic(auto, using(tries::proofs::Tried::stops, crate::proofs::Steps::held_there, crate::proofs::Steps::fails, crate::proofs::Steps::finds, crate::proofs::Steps::goes))]
 fn attempt(
     desk: &Desk,
     limit: u32,
     course: &mut Course,
     j: usize,
-    m: u32,
-    held: u64,
-    admitted: bool,
+    host: &Host,
     t: u32,
 ) -> ControlFlow<End>
-    requires m_lt_hosts { (m < desk.now.sheet.head.modules) × (held ≡ held_on course.old.plan.modules m j) }
-    requires admitted_value { admitted ≡ admits_on desk.now course.old.plan.modules m j }
+    requires host { TakenUp desk.now course.old.plan.modules j host.now }
     requires ready { Ready desk.now course.old.plan.modules j }
-    ensures { Tried desk.now limit j m t (under_way course.old) (standing result course.new) }
+    ensures { Tried desk.now limit j host.now.module t (under_way course.old) (standing result course.new) }
 {
     if limit <= course.tries {
         return ControlFlow::Break(End::Stopped);
     }
     course.tries += 1;
-    course.plan.modules[j] = m;
+    course.plan.modules[j] = host.module;
     course.plan.starts[j] = t;
-    if !desk.fits(&course.plan, held, admitted, j) {
+    if !desk.fits(&course.plan, host.held, host.admitted, j) {
         return ControlFlow::Continue(());
     }
     if j + 1 == desk.sheet.head.partitions {

@@ -14,18 +14,11 @@ use std::ops::ControlFlow;
 
 // What a call is refused for that searches nothing: its sheet, or a buffer of too few bytes.
 #[tactic(auto, unfolding(crate::specs::Answer::refusal_of, numbers::specs::First::met))]
-fn check(
-    s: &Sheet,
-    d: &[[u16; Sheet::MODULES]; Sheet::MODULES],
-    room: usize,
-) -> Result<(), Refusal>
+fn check(s: &Sheet, d: &[[u16; Sheet::MODULES]; Sheet::MODULES], room: usize) -> Result<(), Refusal>
     ensures { number_of result ≡ refusal_of s.now d.now room }
 {
     check_sheet(s, d)?;
-    refuse_if(
-        room < length_of(s.head.partitions),
-        Refusal::BufferTooShort,
-    )
+    refuse_if(room < length_of(s.head.partitions), Refusal::BufferTooShort)
 }
 
 // The search from the empty partial plan. Where one is found it is written; all else leaves the buffer alone.

@@ -35,16 +35,16 @@ below g e = let h = leb-false _ _ (unbroken _ 19 (sym e)) in omega (arith, g.fai
 set_is : (ms : List ℕ) (n m : ℕ) {sets : List ℕ} → sets ≡ sets_on ms n → m < most_modules → get_or sets m 0 ≡ set_of (is_on ms m) n
 set_is ms n m e h = ap (λ (l : List ℕ). get_or l m 0) e ∙ set_at ms n m h
 
-pub returns-in_err-judge : goal.returns-in_err-judge
-returns-in_err-judge c =
+pub returns-in_err-judge-clause-built : goal.returns-in_err-judge-clause-built
+returns-in_err-judge-clause-built c =
     let a = c.args in
     let f = c.in_err-judge.field-0.0 in
     let ps = parts_on a.s a.p a.m in
     let e = number_judged a.s a.d a.p a.m (length a.buffer.now) (ap (λ (x : Answer). x.number) c.in_err-judge.ensures) (failure_some f) in
     (search (rules, returned_refused (failed_as f).number ps e (failure_some f)), left_refused (failed_as f).number ps e (failure_some f) a.buffer.now)
 
-pub returns-in_err-refuse_if : goal.returns-in_err-refuse_if
-returns-in_err-refuse_if c =
+pub returns-in_err-refuse_if-clause-built : goal.returns-in_err-refuse_if-clause-built
+returns-in_err-refuse_if-clause-built c =
     let a = c.args in
     let r = c.in_err-refuse_if.field-0.0 in
     let ps = parts_on a.s a.p a.m in
@@ -80,8 +80,8 @@ build-requires c =
     let e = set_is a.p.modules a.s.head.partitions a.m c.hosted-sets.ensures (below g c.in_ok-refuse_if.ensures) in
     found_hosted a.s a.d a.p g a.m c.of.ensures.periods c.of.ensures.budgets e
 
-pub returns-in_err-length : goal.returns-in_err-length
-returns-in_err-length c =
+pub returns-in_err-length-clause-built : goal.returns-in_err-length-clause-built
+returns-in_err-length-clause-built c =
     let a = c.args in
     let z = zero c.in_ok-judge.ensures in
     let g = good a.s a.d a.p z in
@@ -89,8 +89,8 @@ returns-in_err-length c =
     let is = c.in_err-length.ensures.0 ∙ room_returned a.s a.d a.p a.m (length a.buffer.now) z e c.in_ok-refuse_if.ensures in
     (search (rules, is), c.build.ensures.1 ∙ room_left a.s a.d a.p a.m (length a.buffer.now) z e c.in_ok-refuse_if.ensures a.buffer.now)
 
-pub returns : goal.returns
-returns c =
+pub returns-clause-built : goal.returns-clause-built
+returns-clause-built c =
     let a = c.args in
     let z = zero c.in_ok-judge.ensures in
     let g = good a.s a.d a.p z in
