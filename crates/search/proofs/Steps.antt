@@ -90,17 +90,16 @@ module _ (d : Desk) (limit j : ℕ) where
     still_ready from ready by =
         ready_alike _ _ _ (ready_alike _ _ _ ready _ by.rows.kept.long by.rows.kept.same) _ in_turn.cols.kept.long in_turn.cols.kept.same
 
+    -- behind the last start to the next module
+    pub turns_last : (from : Course) → ByModule from begun m → m < d.sheet.head.modules → width_of d j ≤ t → ByModule from c (m + 1)
+    turns_last from by h last = record { rows = leave _ _ _ _ _ _ _ _ _ _ _ _ _ by.rows h _ _ _ _ in_turn.cols last }
+
     module _ (on : ℕ) (same : on ≡ m) (l : t ≤ at d.times.periods j - at d.times.budgets j) where
       -- a try that ends nothing leads to the next start
       pub turns : (c' : Course) → Tried d limit j on t (under_way c) (under_way c') → ByStart begun c' m (t + 1)
       turns c' e = record { cols = turn _ _ _ _ _ _ _ _ _ _ _ _ _ _ in_turn.cols (omega arith) _ (rw same at e) refl refl }
 
       module _ (from : Course) (by : ByModule from begun m) (h : m < d.sheet.head.modules) where
-        -- and behind the last one to the next module
-        pub turns_last : (c' : Course) → at d.times.periods j - at d.times.budgets j ≤ t → Tried d limit j on t (under_way c) (under_way c')
-            → ByModule from c' (m + 1)
-        turns_last c' last e = record { rows = leave _ _ _ _ _ _ _ _ _ _ _ _ _ by.rows h _ _ _ _ (turns c' e).cols (omega arith) }
-
         -- one that ends the search ends it over all placements
         pub breaks : (end : End) (c' : Course) → Tried d limit j on t (under_way c) (ended end c') → Searched d limit j (under_way from) (ended end c')
         breaks Found c' e = hit _ _ _ _ _ _ _ _ _ _ _ _ _ by.rows h _ _ _ _ in_turn.cols (omega arith) _ (rw same at e) refl

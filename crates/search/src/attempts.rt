@@ -69,10 +69,10 @@ pub fn over(desk: &Desk, limit: u32, course: &mut Course, j: usize) -> ControlFl
     requires { Ready desk.now course.old.plan.modules j }
     ensures { Searched desk.now limit j (under_way course.old) (standing result course.new) }
 {
-    let last = desk.times.periods[j] - desk.times.budgets[j];
+    let starts = desk.times.periods[j] - desk.times.budgets[j] + 1;
     for m in 0..desk.sheet.head.modules as u32 {
         let host = Host::of(desk, &course.plan, m, j);
-        for t in 0..=last {
+        for t in 0..starts {
             attempt(desk, limit, course, j, &host, t)?;
         }
     }
