@@ -26,6 +26,7 @@ fn nearer(best: Slot, start: u32, length: u32, partition: u8) -> Slot
 
 impl<'a> Hosted<'a> {
     // The soonest execution from tick n on; its start is the frame where none begins before that.
+    // Kept: the frame as its start and no `Option`, as `soonest` and `beyond` of frames' specs have it, which document 01's builder goes by.
     #[tactic(auto, using(sets::proofs::Walks::turn_below, sets::proofs::Walks::of_over), unfolding(frames::specs::Next::soonest))]
     pub fn soonest(&self, n: u32, frame: u32) -> Slot
         requires { n ≤ most_frame }

@@ -1,4 +1,5 @@
 // What the programs show of files that stand: the counts of a sheet, the head and the slots of a table, the budget of a search.
+// Kept: zeros and no `Option` where there is nothing to show, as `counts_of`, `table_at`, `slot_at` and `budget_of` of specs/Looks have them.
 ghost use Rattle.std.specs.Prelude.{◌≡◌};
 ghost use Rattle.ghozrembu.specs.Looks.{counts_of, table_at, slot_at, budget_of};
 
