@@ -60,7 +60,7 @@ module _ (sheet : List ℕ) {r : Reading} (e : r ≡ sheet_read sheet) (budget :
 
 -- a sheet that is read
 module _ (sheet : List ℕ) {s : Sheet} (e : ◌≡◌ {A = Reading} (record { number = 0; sheet = s }) (sheet_read sheet)) {d : List (List ℕ)} (before : List (List ℕ))
-  (g : d ≡ delays_read sheet before) (budget : ℕ) where
+    (g : d ≡ delays_read sheet before) (budget : ℕ) where
   sheet_zero : sheet_number sheet ≡ 0
   sheet_zero = sym (read_number sheet e)
 
