@@ -10,6 +10,7 @@ use table::records::Table;
 
 impl<'a> Hosted<'a> {
     // The least common multiple of the periods, or 1 where there is no partition. It stops as soon as it outgrows a table's field.
+    // Kept: a number above `Table::FRAME` and no `Option`: `FrameFound` (specs/Asked) speaks of it, and `room` refuses it by the same test.
     #[tactic(auto, using(sets::proofs::Walks::turn_below, sets::proofs::Walks::of_over, euclid::proofs::Laws::lcm_pos, crate::proofs::Found::timed_positive, crate::proofs::Found::found_early, crate::proofs::Found::found_whole), unfolding(frames::specs::Frame::frame_from))]
     pub fn frame(&self) -> u64
         ensures { (B ts : List ℕ) → FrameFound (parts_of self.now.times.now.periods B ts self.now.set) result }
