@@ -42,7 +42,7 @@ impl From<Result<usize, Failure>> for Built {
 }
 
 // The table of one module of a plan, written at the front of the buffer: its length. The judge's failure comes first, then 20, 21, 22 and 23.
-// Kept: sheet, delays and plan by value, as document 01 names the delays ("sixteen rows of sixteen by value"); inside all is lent.
+// Kept: sheet, delays and plan by value, as document 01's form for the delays has it beside the sheet's record; inside all is lent.
 #[tactic(auto, using(numbers::proofs::Refused::number_some, crate::proofs::Returned::failure_some, crate::proofs::Returned::returned_refused, crate::proofs::Returned::left_refused, crate::proofs::Returned::number_judged, crate::proofs::Returned::number_module))]
 pub fn build(
     s: Sheet,

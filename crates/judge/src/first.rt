@@ -1,5 +1,5 @@
 // The first of some places at which a test fails, and what is broken there.
-// Kept: a count and a test as two parameters: a struct of them would be made at each call only to be taken apart again.
+// Kept: what is asked of a closure and said of its answers is written out in each function that takes one: a name would hide `F.pre` and `F.post`.
 ghost use Rattle.std.specs.Prelude.{◌≡◌, ℕ, ◌-◌, ◌≤◌, ◌<◌, ◌^◌, Bool, IfSome};
 ghost use Rattle.judge.specs.Answers.{broken_as, verdict_of};
 ghost use Rattle.judge.specs.Places.{fails_from, first_fail, found};

@@ -6,8 +6,7 @@ ghost use Rattle.model.specs.Columns.{periods_of, budgets_of};
 use model::columns;
 use model::records::Sheet;
 
-// Kept: two arrays beside the sheet's records: `verdict`, `Ready` and the theorems of specs/Meaning take periods and budgets as lists, since
-// grown budgets will be judged too.
+// Kept: two arrays beside the sheet's records: `verdict`, `Ready` and the theorems of specs/Meaning take periods and budgets as lists.
 #[derive(Clone, Copy)]
 pub struct Times {
     pub periods: [u32; Sheet::PARTITIONS],
@@ -16,6 +15,7 @@ pub struct Times {
 
 impl Times {
     // Those of a sheet.
+    // Kept: a clause on the count of partitions, as in model/src/columns.rt.
     pub fn of(s: &Sheet) -> Times
         requires { s.now.head.partitions ≤ most_partitions }
         ensures periods { result.periods ≡ periods_of s.now }

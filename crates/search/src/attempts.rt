@@ -80,6 +80,7 @@ pub fn over(desk: &Desk, limit: u32, course: &mut Course, j: usize) -> ControlFl
 }
 
 // One try: partition j on the module of `host` with start t, and where that fits the partitions left.
+// Kept: six parameters, which are six things: what stands for the whole search, its budget, how far it got, and the partition, module and start of the try.
 #[cycle(attempt_over)]
 #[tactic(auto, using(tries::proofs::Tried::stops, crate::proofs::Steps::held_there, crate::proofs::Steps::fails, crate::proofs::Steps::finds, crate::proofs::Steps::goes))]
 fn attempt(

@@ -21,6 +21,7 @@ pub struct Searched {
 }
 
 // The same in two numbers: 0 found, 26 no plan, 27 stopped, or that of another refusal, and the tries made.
+// Kept: a number beside the tries and no `Result`, since C reads both.
 #[repr(C)]
 #[derive(Clone, Copy)]
 pub struct Found {
@@ -40,7 +41,7 @@ impl From<Searched> for Found {
 }
 
 // The search on decoded values. Found writes the plan at the front of the buffer; all else leaves the buffer alone.
-// Kept: sheet and delays by value, as document 01 names the delays ("sixteen rows of sixteen by value"); inside both are lent.
+// Kept: sheet and delays by value, as document 01's form for the delays has it beside the sheet's record; inside both are lent.
 pub fn search(
     s: Sheet,
     d: [[u16; Sheet::MODULES]; Sheet::MODULES],
