@@ -111,7 +111,7 @@ fair_laid s delays fair = record {
   within = budget_within s delays fair;
   short = period_short s delays fair;
   divisors = λ j l i h.
-      rw (divisor_at (periods_of s) s.head.partitions i j fair.head.inside.partitions (omega arith) l)
+      rw (divisor_at (periods_of s) s.head.partitions i j fair.head.inside.partitions (omega arith) (omega (arith, l, fair.head.inside.partitions)))
       (gcd_at_least_one (at (periods_of s) i) (at (periods_of s) j) (some_period s delays fair i (omega arith)));
   far = λ j l i h y.
       let few = fair.head.inside.partitions in

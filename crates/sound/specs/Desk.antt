@@ -27,13 +27,13 @@ largest members (suc n) = max (largest members n) (at members n)
 abbrev pub last_of : Chain → ℕ
 last_of c = largest c.members c.length
 
--- the greatest common divisors of partition i's period with those of the first n partitions
-abbrev pub divisors_with : (periods : List ℕ) → (n i : ℕ) → List ℕ
-divisors_with periods n i = filled most_partitions n (λ j. gcd_of (at periods i) (at periods j)) 0
+-- the greatest common divisors of partition i's period with each of the column
+abbrev pub divisors_with : (periods : List ℕ) → ℕ → List ℕ
+divisors_with periods i = filled most_partitions most_partitions (λ j. gcd_of (at periods i) (at periods j)) 0
 
 -- of each of the first n partitions
 unfoldable pub divisors_of : (periods : List ℕ) → ℕ → List (List ℕ)
-divisors_of periods n = filled most_partitions n (divisors_with periods n) (replicate most_partitions 0)
+divisors_of periods n = filled most_partitions n (divisors_with periods) (replicate most_partitions 0)
 
 -- exclusion x is of the given kind, and its second partition is j
 unfoldable pub pairs_at : Sheet → (kind j x : ℕ) → Bool

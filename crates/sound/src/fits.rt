@@ -80,6 +80,7 @@ impl Desk {
 
     // The placement of partition j fits those of the partitions before it. `held` are those of them that are on its module, and `admitted` says
     // whether the module admits it.
+    // Kept: the two are worked out once for a module's starts and handed to each try: a struct of them would be the search's `Host` again.
     #[tactic(auto, using(crate::proofs::Laid::held_before), unfolding(crate::specs::Desk::fits_where))]
     pub fn fits(&self, plan: &Plan, held: u64, admitted: bool, j: usize) -> bool
         requires testable { Testable self.now plan.now.modules j }

@@ -3,6 +3,7 @@ ghost use Rattle.std.specs.Prelude.{◌≡◌, ℕ, ◌≤◌, ◌<◌, Bool};
 ghost use Rattle.sets.specs.Members.{places, set_of};
 
 // The set of those of the first n that are kept.
+// Kept: what is asked of the closure and said of its answers is written out, since a name would hide `F.pre` and `F.post`.
 pub fn set_of<F: Fn(usize) -> bool>(n: usize, keeps: F) -> u64
     requires room { n ≤ places }
     requires callable { (i : ℕ) → i < n → F.pre keeps i }

@@ -4,4 +4,4 @@ use Rattle.sound.proofs.desk.divisors_of.Goals as goal
 
 pub returns : goal.returns
 unfolding divisors_of
-returns c = c.filled.ensures (divisors_with c.args.periods.now c.args.n) (λ i r h p. search rules)
+returns c = c.filled.ensures (divisors_with c.args.periods.now) (λ i r h p. search rules)
