@@ -16,7 +16,7 @@ use crate::parts::Hosted;
 use judge::times::Times;
 use judge::{Answer, Failure, judge, rooms};
 use model::records::{Plan, Sheet};
-use numbers::{Refusal, refuse_if};
+use numbers::{FINE, Refusal, refuse_if};
 
 // The number, and how many bytes the table has where that is 0.
 // Kept: a number with a length beside it and no `Result`, since C reads both.
@@ -32,7 +32,10 @@ impl From<Result<usize, Failure>> for Built {
 
     fn from(outcome: Result<usize, Failure>) -> Built {
         match outcome {
-            Ok(length) => Built { number: 0, length },
+            Ok(length) => Built {
+                number: FINE,
+                length,
+            },
             Err(failure) => Built {
                 number: Answer::from(failure).number,
                 length: 0,

@@ -14,13 +14,15 @@ use Rattle.model.specs.declared.records.Sheet.{Sheet}
 use Rattle.model.specs.declared.records.Plan.{Plan}
 use Rattle.layout.specs.Values.{sheet_of}
 use Rattle.reader.specs.Number.{Reading, reading_of}
+use Rattle.reader.specs.Plan.{PlanReading, plan_reading_of}
 use Rattle.judge.specs.declared.Answer.{Answer}
 use Rattle.judge.specs.declared.Broken.{Broken}
 use Rattle.judge.specs.declared.Broken.TheVariants.{OffTheModules, Overlap, PastThePeriod, PastTheMemory, PastTheMost, SharedModule, SharedCabinet, PastTheLimit}
 use Rattle.judge.specs.declared.Failure.{Failure}
 use Rattle.judge.specs.declared.Failure.TheVariants as failures
-use Rattle.judge.specs.Answers.{broken_as, failed_as, answer_of}
+use Rattle.judge.specs.Answers.{broken_as, verdict_of, failed_as, answer_of}
 use Rattle.judge.specs.Verdict.{judged}
+use Rattle.judge.proofs.Stages.{broken_some}
 use Rattle.table.specs.declared.records.Position.{Position}
 use Rattle.table.specs.declared.records.Step.{Step}
 use Rattle.table.specs.Layout.{most_frame, most_slots}
@@ -31,7 +33,7 @@ use Rattle.search.specs.declared.Searched.{Searched}
 use Rattle.search.specs.Answer.{found_as}
 use Rattle.frames.specs.Frame.{Part, frame, slots_of}
 use Rattle.builder.specs.declared.Built.{Built}
-use Rattle.builder.specs.Built.{parts_on, size_of, room_number, built_number, returned, built_as, built_of}
+use Rattle.builder.specs.Built.{parts_on, size_of, room_number, built_number, returned, room_as, built_as, built_of}
 use Rattle.builder.proofs.Returned.{failure_some}
 use Rattle.ghozrembu.specs.Judged.{judged_bytes}
 use Rattle.ghozrembu.specs.BuiltBytes.{parts_in, build_number, built_bytes}
@@ -128,6 +130,30 @@ step_told q (Ok s) (Ok t) e =
 step_told q (Ok s) (Err r) e = absurd (number_some r (sym (ap (λ (m : Moved). m.number) e)))
 step_told q (Err r) (Ok s) e = absurd (number_some r (ap (λ (m : Moved). m.number) e))
 step_told q (Err r) (Err s) e = ap Err (refusal_told (ap (λ (m : Moved). m.number) e))
+
+-- ---- the constraints
+pub broken_told : {b c : Broken} → broken_as b ≡ broken_as c → b ≡ c
+broken_told {b} {c} e = sym (broken_back b).0 ∙ ap broken_at e ∙ (broken_back c).0
+
+pub verdict_told : (x y : Result Unit Broken) → verdict_of x ≡ verdict_of y → x ≡ y
+verdict_told (Ok _) (Ok _) e = refl
+verdict_told (Ok _) (Err c) e = absurd (broken_some c (sym (ap number_in e)))
+verdict_told (Err b) (Ok _) e = absurd (broken_some b (ap number_in e))
+verdict_told (Err b) (Err c) e = ap Err (broken_told e)
+
+-- ---- a plan that is read
+pub plan_read_told : (x y : Result Plan Refusal) → plan_reading_of x ≡ plan_reading_of y → x ≡ y
+plan_read_told (Ok p) (Ok q) e = ap (λ (r : PlanReading). Ok r.plan) e
+plan_read_told (Ok p) (Err r) e = absurd (number_some r (sym (ap (λ (q : PlanReading). q.number) e)))
+plan_read_told (Err r) (Ok p) e = absurd (number_some r (ap (λ (q : PlanReading). q.number) e))
+plan_read_told (Err r) (Err s) e = ap Err (refusal_told (ap (λ (q : PlanReading). q.number) e))
+
+-- ---- a table that has room
+pub room_told : (x y : Result ℕ Refusal) → room_as x ≡ room_as y → x ≡ y
+room_told (Ok m) (Ok n) e = ap (λ (u : Built). Ok u.length) e
+room_told (Ok m) (Err r) e = absurd (number_some r (sym (ap (λ (u : Built). u.number) e)))
+room_told (Err r) (Ok m) e = absurd (number_some r (ap (λ (u : Built). u.number) e))
+room_told (Err r) (Err s) e = ap Err (refusal_told (ap (λ (u : Built). u.number) e))
 
 -- ---- a sheet that is read
 pub read_told : (x y : Result Sheet Refusal) → reading_of x ≡ reading_of y → x ≡ y

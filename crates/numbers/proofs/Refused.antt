@@ -1,4 +1,4 @@
--- A refusal's number is not 0, and says which refusal it is: an answer's number determines the answer. Assumes nothing.
+-- A refusal's number is not 0. (That it says which refusal it is: demands/proofs/Told.) Assumes nothing.
 use Rattle.std.specs.Prelude.{◌≡◌}
 use native.Mathlib.Omega.{arith}
 use Rattle.numbers.specs.declared.Refusal.{Refusal}

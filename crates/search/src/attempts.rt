@@ -18,7 +18,7 @@ pub enum End {
 }
 
 // The partial plan, and the tries made.
-#[derive(Drop)]
+#[derive(Clone, Copy)]
 pub struct Course {
     pub plan: Plan,
     pub tries: u32,

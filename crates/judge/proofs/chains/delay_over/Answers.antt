@@ -1,4 +1,5 @@
-use Rattle.std.proofs.Common.{◌+◌, arith}
+use Rattle.std.proofs.Common.{◌+◌, arith, ap, ◌∙◌}
+use Rattle.judge.specs.Constraints.{chain_delay}
 use Rattle.judge.proofs.Hops.{hops_start, hops_turn, hops_end}
 use Rattle.judge.proofs.chains.delay_over.Goals as goal
 
@@ -13,4 +14,7 @@ loop-j-preserved c = let l = c.loop-j in (
 )
 
 pub returns : goal.returns
-returns c = rw (← c.from-length.ensures) (hops_end _ _ _ _ _ _ c.loop-j.j c.loop-j.total c.loop-j-test.false c.loop-j.invariant.1)
+returns c =
+    let a = c.args in
+    hops_end _ _ _ _ _ _ c.loop-j.j c.loop-j.total c.loop-j-test.false c.loop-j.invariant.1
+    ∙ ap (chain_delay a.times.now.periods a.times.now.budgets a.delays.now a.modules.now a.chain.now.members) c.from-length.ensures

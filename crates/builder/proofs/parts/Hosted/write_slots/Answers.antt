@@ -18,7 +18,7 @@ overflow_add-n c =
     let a = c.args in
     let l = c.loop-i in
     let r = c.requires.ready in
-    let b : l.i < a.t.slots = c.loop-i-test.true in
+    let b : l.i < a.t.slots = omega (arith, c.loop-i-test.true) in
     let t = turned a.self.now.times.now.periods a.self.now.times.now.budgets a.self.now.plan.now.starts a.self.now.set a.t r l.n l.i c.soonest-x.result b l.invariant.0 l.invariant.2 c.soonest-x.ensures in
     omega (arith, t.fits, r.frame_is, r.small)
 
@@ -27,7 +27,7 @@ write_slot-requires-clause-start_le_most_frame c =
     let a = c.args in
     let l = c.loop-i in
     let r = c.requires.ready in
-    let b : l.i < a.t.slots = c.loop-i-test.true in
+    let b : l.i < a.t.slots = omega (arith, c.loop-i-test.true) in
     let t = turned a.self.now.times.now.periods a.self.now.times.now.budgets a.self.now.plan.now.starts a.self.now.set a.t r l.n l.i c.soonest-x.result b l.invariant.0 l.invariant.2 c.soonest-x.ensures in
     t.small
 
@@ -36,7 +36,7 @@ loop-i-preserved c =
     let a = c.args in
     let l = c.loop-i in
     let r = c.requires.ready in
-    let b : l.i < a.t.slots = c.loop-i-test.true in
+    let b : l.i < a.t.slots = omega (arith, c.loop-i-test.true) in
     let t = turned a.self.now.times.now.periods a.self.now.times.now.budgets a.self.now.plan.now.starts a.self.now.set a.t r l.n l.i c.soonest-x.result b l.invariant.0 l.invariant.2 c.soonest-x.ensures in
     let xs = slots_of (parts_of a.self.now.times.now.periods a.self.now.times.now.budgets a.self.now.plan.now.starts a.self.now.set) in (
       omega (arith, t.fits, r.frame_is),
